@@ -59,7 +59,7 @@ module _ (known : ℕ → Bool) (v : Var) (env final : Env) (row : Row) (same : 
       let c = cond_some (num_expr.ghosts.eq x (Field v f) && is_known_number known y) y e h in
       let p = and_parts _ _ c.0 in
       let left : number x final ≡ field f row = ap (λ z. number z final) (number_is x (Field v f) p.0)
-          ∙ ap (λ o. on_row o (field f)) here in
+      ∙ ap (λ o. on_row o (field f)) here in
       let right : number y final ≡ number e env = number_stays y p.1 ∙ ap (λ z. number z env) c.1 in
       subst (λ z. both Eq (field f row) z ≡ true) right (subst (λ z. both Eq z (number y final) ≡ true) left t)
 
@@ -69,7 +69,7 @@ module _ (known : ℕ → Bool) (v : Var) (env final : Env) (row : Row) (same : 
       let c = cond_some (text_expr.ghosts.eq x (X.Field v f) && is_known_text known y) y e h in
       let p = and_parts _ _ c.0 in
       let left : text x final ≡ text_field f row = ap (λ z. text z final) (text_is x (X.Field v f) p.0)
-          ∙ ap (λ o. on_row o (text_field f)) here in
+      ∙ ap (λ o. on_row o (text_field f)) here in
       let right : text y final ≡ text e env = text_stays y p.1 ∙ ap (λ z. text z env) c.1 in
       subst (λ z. both_texts Eq (text_field f row) z ≡ true) right (subst (λ z. both_texts Eq z (text y final) ≡ true) left t)
 
@@ -97,7 +97,7 @@ module _ (known : ℕ → Bool) (v : Var) (env final : Env) (row : Row) (same : 
       let c = cond_some (var.ghosts.eq w v && is_known_text known y) y e h in
       let p = and_parts _ _ c.0 in
       let left : on_row (lookup w.0 final) (list_field Words) ≡ list_field Words row =
-          ap (λ (z : Var). on_row (lookup z.0 final) (list_field Words)) (var_is w v p.0) ∙ ap (λ o. on_row o (list_field Words)) here in
+      ap (λ (z : Var). on_row (lookup z.0 final) (list_field Words)) (var_is w v p.0) ∙ ap (λ o. on_row o (list_field Words)) here in
       let right : text y final ≡ text e env = text_stays y p.1 ∙ ap (λ z. text z env) c.1 in
       subst (λ z. has (list_field Words row) z ≡ true) right (subst (λ z. has z (text y final) ≡ true) left t)
   by_word _ e h t = absurd (none-some e h)
@@ -108,12 +108,12 @@ module _ (known : ℕ → Bool) (v : Var) (env final : Env) (row : Row) (same : 
       let c = cond_some (var.ghosts.eq u v && known x.0) x w h in
       let p = and_parts _ _ c.0 in
       let left : on_row (lookup x.0 final) (list_field References) ≡ on_row (lookup w.0 env) (list_field References) =
-          ap (λ o. on_row o (list_field References)) (same x.0 p.1)
-          ∙ ap (λ (z : Var). on_row (lookup z.0 env) (list_field References)) c.1 in
+      ap (λ o. on_row o (list_field References)) (same x.0 p.1)
+      ∙ ap (λ (z : Var). on_row (lookup z.0 env) (list_field References)) c.1 in
       let right : on_row (lookup u.0 final) (text_field MsgId) ≡ text_field MsgId row =
-          ap (λ (z : Var). on_row (lookup z.0 final) (text_field MsgId)) (var_is u v p.0) ∙ ap (λ o. on_row o (text_field MsgId)) here in
+      ap (λ (z : Var). on_row (lookup z.0 final) (text_field MsgId)) (var_is u v p.0) ∙ ap (λ o. on_row o (text_field MsgId)) here in
       subst (λ z. has (on_row (lookup w.0 env) (list_field References)) z ≡ true) right
-        (subst (λ z. has z (on_row (lookup u.0 final) (text_field MsgId)) ≡ true) left t)
+      (subst (λ z. has z (on_row (lookup u.0 final) (text_field MsgId)) ≡ true) left t)
   by_referring _ w h t = absurd (none-some w h)
 
   by_reference : (a : Atom) (e : TextExpr) → reference_side known v a ≡ Some e → true_atom a final ≡ true
@@ -122,8 +122,8 @@ module _ (known : ℕ → Bool) (v : Var) (env final : Env) (row : Row) (same : 
       let c = cond_some (var.ghosts.eq w v && is_known_text known y) y e h in
       let p = and_parts _ _ c.0 in
       let left : on_row (lookup w.0 final) (list_field References) ≡ list_field References row =
-          ap (λ (z : Var). on_row (lookup z.0 final) (list_field References)) (var_is w v p.0)
-          ∙ ap (λ o. on_row o (list_field References)) here in
+      ap (λ (z : Var). on_row (lookup z.0 final) (list_field References)) (var_is w v p.0)
+      ∙ ap (λ o. on_row o (list_field References)) here in
       let right : text y final ≡ text e env = text_stays y p.1 ∙ ap (λ z. text z env) c.1 in
       subst (λ z. has (list_field References row) z ≡ true) right (subst (λ z. has z (text y final) ≡ true) left t)
   by_reference _ e h t = absurd (none-some e h)

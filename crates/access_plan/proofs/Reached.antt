@@ -19,7 +19,7 @@ reaches_are_enough path bound r rs env final row s same here guards =
     let there : lookup step.var.0 final ≡ Some row = ap (λ (v : Var). lookup v.0 final) (sym serves.var) ∙ here in
     let all = all_in (λ (x : Step). list_all (λ a. true_atom a final) x.guards) path step guards s.0.1 in (
       ap (λ access. admits access env row) serves.access ∙ accesses_are_enough (is_bound bound) step.var step.table step.guards env final
-        row same there (λ a i. all_in (λ a. true_atom a final) step.guards a all i),
+          row same there (λ a i. all_in (λ a. true_atom a final) step.guards a all i),
       ap table_of serves.access ∙ accesses_keep_tables (is_bound bound) step.var step.table step.guards ∙ sym serves.table,
     )
 

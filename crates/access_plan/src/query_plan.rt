@@ -25,10 +25,8 @@ pub struct Plan {
     pub query: RangedQuery,
     pub orders: Rows<Rows<Reach>>,
     pub inners: Rows<Option<Access>>,
-    ghost planned: { orders ≡ orders_of query.parts }
-        by { Coded-set orders-code orders (orders_of query.parts) },
-    ghost found: { inners ≡ inners_of query.pool }
-        by { Coded-set inners-code inners (inners_of query.pool) },
+    ghost planned: { orders ≡ orders_of query.parts } by { Coded-set orders-code orders (orders_of query.parts) },
+    ghost found: { inners ≡ inners_of query.pool } by { Coded-set inners-code inners (inners_of query.pool) },
 }
 
 impl Plan {

@@ -20,7 +20,7 @@ place-from n zero (doc ∷ docs) numbered = rw (this-one doc.num.0 n (n + 0) num
 place-from n (suc k) (doc ∷ docs) numbered =
     let next : n + 1 + k ≡ n + suc k = omega arith in
     rw (another doc.num.0 n (n + suc k) numbered.0 (omega arith))
-      (subst (λ z. find (λ doc. nat_eq doc.num.0 z) docs ≡ slice_get docs k) next (place-from (n + 1) k docs numbered.1))
+    (subst (λ z. find (λ doc. nat_eq doc.num.0 z) docs ≡ slice_get docs k) next (place-from (n + 1) k docs numbered.1))
 
 none-below : (n : ℕ) (docs : List Doc) → 0 < n → Numbered doc_number n docs → find (λ doc. nat_eq doc.num.0 0) docs ≡ None
 none-below n [] some numbered = refl
@@ -35,7 +35,7 @@ doc-placed zero docs numbered = none-below 1 docs (omega arith) numbered
 doc-placed (suc k) docs numbered =
     let some : (suc k == 0) ≡ false = is-some k in
     rw some (subst (λ n. find (λ doc. nat_eq doc.num.0 n) docs ≡ slice_get docs (suc k - 1)) (one-more k)
-        (place-from 1 (suc k - 1) docs numbered)) where
+    (place-from 1 (suc k - 1) docs numbered)) where
       is-some : (n : ℕ) → (suc n == 0) ≡ false
       is-some n = grind arith
 

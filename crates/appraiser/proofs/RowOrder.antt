@@ -26,11 +26,11 @@ chain_over p q r false false true under h g = absurd (true≢false (under refl r
 chain_above : (x y z : Listed) → is_above x y ≡ false → is_above y z ≡ false → is_above x z ≡ false
 chain_above x y z h g =
     chain_over x.priority y.priority z.priority _ _ _
-      (chain_under x.entry.first y.entry.first z.entry.first x.entry.doc.0 y.entry.doc.0 z.entry.doc.0) h g
+    (chain_under x.entry.first y.entry.first z.entry.first x.entry.doc.0 y.entry.doc.0 z.entry.doc.0) h g
 
 pub above_order : IsStrictWeakOrder is_above
 above_order = record { one_way = one_above; chain = chain_above }
 
 pub above_ranked : (x y : Listed) → is_lt (ordering_then (nat_cmp y.priority x.priority)
-      (ordering_then (int_cmp x.entry.first y.entry.first) (nat_cmp x.entry.doc.0 y.entry.doc.0))) ≡ is_above x y
+    (ordering_then (int_cmp x.entry.first y.entry.first) (nat_cmp x.entry.doc.0 y.entry.doc.0))) ≡ is_above x y
 above_ranked x y = grind (arith, ints)

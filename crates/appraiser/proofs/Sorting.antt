@@ -138,17 +138,17 @@ module _ {X : Type 0} (lt : X → X → Bool) (order : IsStrictWeakOrder lt) whe
   only_one (y ∷ ys) (z ∷ zs) o p same = go (λ t. only_one ys zs o.1 p.1 t) (lt y z) (lt z y) refl refl where
     tails : y ≡ z → (x : X) → filter (ties lt x) ys ≡ filter (ties lt x) zs
     tails e x = by (ties lt x y) (ap (λ b. cond b (y ∷ filter (ties lt x) ys) (filter (ties lt x) ys)) refl ∙ same x
-          ∙ ap (λ w. cond (ties lt x w) (w ∷ filter (ties lt x) zs) (filter (ties lt x) zs)) (sym e)) where
-      by : (b : Bool) → cond b (y ∷ filter (ties lt x) ys) (filter (ties lt x) ys)
-          ≡ cond b (y ∷ filter (ties lt x) zs) (filter (ties lt x) zs) → filter (ties lt x) ys ≡ filter (ties lt x) zs
-      by true e = ap tail_of e
-      by false e = e
+        ∙ ap (λ w. cond (ties lt x w) (w ∷ filter (ties lt x) zs) (filter (ties lt x) zs)) (sym e)) where
+          by : (b : Bool) → cond b (y ∷ filter (ties lt x) ys) (filter (ties lt x) ys)
+              ≡ cond b (y ∷ filter (ties lt x) zs) (filter (ties lt x) zs) → filter (ties lt x) ys ≡ filter (ties lt x) zs
+          by true e = ap tail_of e
+          by false e = e
 
     heads : lt y z ≡ false → lt z y ≡ false → y ≡ z
     heads a b =
         let t : ties lt y z ≡ true = ap (λ c. not c && not (lt z y)) a ∙ ap not b in
         let f : filter (ties lt y) (z ∷ zs) ≡ z ∷ filter (ties lt y) zs =
-            ap (λ c. cond c (z ∷ filter (ties lt y) zs) (filter (ties lt y) zs)) t in
+        ap (λ c. cond c (z ∷ filter (ties lt y) zs) (filter (ties lt y) zs)) t in
         ap (λ l. get_or l 0 y) (sym (own_tie y ys) ∙ same y ∙ f)
 
     joined : y ≡ z → ys ≡ zs → y ∷ ys ≡ z ∷ zs

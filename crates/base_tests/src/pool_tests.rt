@@ -30,8 +30,10 @@ impl PoolNode for Part {
     ghost exact = { elim [
       | Leaf n ↦
           elim [ Leaf k ↦ λ h. ap Leaf (eqb-true n k h) | Not k ↦ λ h. absurd (false≢true h) ]
-      | Not x ↦ elim [ Leaf k ↦ λ h. absurd (false≢true h)
-            | Not y ↦ λ h. ap (λ i. Not (record { 0 = i })) (eqb-true x.0 y.0 h) ]
+      | Not x ↦ elim [
+        | Leaf k ↦ λ h. absurd (false≢true h)
+        | Not y ↦ λ h. ap (λ i. Not (record { 0 = i })) (eqb-true x.0 y.0 h)
+      ]
     ] };
 }
 

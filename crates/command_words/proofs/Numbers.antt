@@ -32,7 +32,7 @@ pub a_number : (t : List ℕ) (n : ℕ) → IsNumeral 10 (without_leading_plus t
 unfolding number_in
 a_number t n numeral value low high =
     let test : is_unsigned_in 1 100000 t ≡ true =
-        Accepts-accepts false (vp.Unsigned 1 100000) t (numeral, omega arith, omega arith, omega arith) in
+    Accepts-accepts false (vp.Unsigned 1 100000) t (numeral, omega arith, omega arith, omega arith) in
     rw test (ap Some (sym value))
 
 -- one that it doesn't read has none
@@ -66,8 +66,10 @@ of_digits n (b ∷ w) low high first numeral value =
     let lows = le-leb 1 n low in
     let highs = le-leb n 100000 high in
     record {
-      count = record { plain = plain_from_head b w minus;
-            within = signed_test b w n minus plus test value (lt-ltb n (2 ^ 63) (omega arith)) lows highs };
+      count = record {
+        plain = plain_from_head b w minus;
+        within = signed_test b w n minus plus test value (lt-ltb n (2 ^ 63) (omega arith)) lows highs;
+      };
       number = a_number (b ∷ w) n (rw same numeral) (rw same (sym value)) low high;
     }
 

@@ -36,7 +36,7 @@ between rows pending =
 -- the walk over one pair
 walk-pair : (rows : List Row) (pending : Option (Text × List Text)) (o : PopOption) (v : List ℕ) → IsPlainWord v
     → walked pop_rules (names_of (built pop_app)) (walked pop_rules (names_of (built pop_app)) (between rows pending) (option_word o)) v
-        ≡ between (settled_rows pop_rules pending rows) (Some (option_name o, v ∷ []))
+    ≡ between (settled_rows pop_rules pending rows) (Some (option_name o, v ∷ []))
 unfolding clap_on_literals
 walk-pair rows pending Store v q = rw (q.long, q.short, q.end) refl
 walk-pair rows pending User v q = rw (q.long, q.short, q.end) refl
@@ -48,7 +48,7 @@ pair-passes : (rows : List Row) (pending : Option (Text × List Text)) (o : PopO
     → settle_passes pop_rules false (record { rows = rows; pending = pending; skip = 0 }) ≡ true
     → walk_passes (built pop_app).top (names_of (built pop_app)) (between rows pending) (option_word o ∷ v ∷ rest)
     ≡ walk_passes (built pop_app).top (names_of (built pop_app))
-      (between (settled_rows pop_rules pending rows) (Some (option_name o, v ∷ []))) rest
+    (between (settled_rows pop_rules pending rows) (Some (option_name o, v ∷ []))) rest
 unfolding clap_on_literals
 pair-passes rows pending Store v rest q e = rw (e, q.long, q.short, q.end) refl
 pair-passes rows pending User v rest q e = rw (e, q.long, q.short, q.end) refl
@@ -57,8 +57,13 @@ pair-passes rows pending Pass v rest q e = rw (e, q.long, q.short, q.end) refl
 
 -- the row of a pair
 abbrev pub row_of_pair : OptionWithValue → Row
-row_of_pair pair = record { id = option_name pair.option; values = pair.value ∷ []; count = None; source = Some CommandLine;
-      reading = reading_of vp.String }
+row_of_pair pair = record {
+  id = option_name pair.option;
+  values = pair.value ∷ [];
+  count = None;
+  source = Some CommandLine;
+  reading = reading_of vp.String;
+}
 
 pub or-false : (a b : Bool) → (a || b) ≡ false → (a ≡ false) × (b ≡ false)
 or-false false b e = (refl, e)
@@ -71,7 +76,7 @@ at-absent id change missing [] e = refl
 at-absent id change missing (r ∷ rs) e =
     let both = or-false (bytes_eq r.id id) (has_row id rs) e in
     ap (λ b. if b then change r ++ rs else r ∷ at_row id change missing rs) both.0
-      ∙ ap (λ xs. r ∷ xs) (at-absent id change missing rs both.1)
+    ∙ ap (λ xs. r ∷ xs) (at-absent id change missing rs both.1)
 
 -- a row that isn't there is put
 put-new : (id : Text) (rows : List Row) (row : Row) (change : Row → List Row) → has_row id rows ≡ false
@@ -129,7 +134,7 @@ head-other : (o : PopOption) (p : OptionWithValue) (ps : List OptionWithValue) �
     → (is_option p.option o ≡ false) × (values_given o ps ≡ [])
 head-other o p ps e = elim (cases_Bool (is_option p.option o)) [
   | inl same ↦
-    absurd (none (p.value) (values_given o ps) (sym (ap (λ b. if b then p.value ∷ values_given o ps else values_given o ps) same) ∙ e))
+      absurd (none (p.value) (values_given o ps) (sym (ap (λ b. if b then p.value ∷ values_given o ps else values_given o ps) same) ∙ e))
   | inr other ↦ (other, sym (ap (λ b. if b then p.value ∷ values_given o ps else values_given o ps) other) ∙ e)
 ] where
   none : (v : List ℕ) (vs : List (List ℕ)) → v ∷ vs ≡ [] → ⊥
@@ -164,9 +169,9 @@ not-before : (done : List OptionWithValue) (p : OptionWithValue) (ps : List Opti
     → values_given p.option done ≡ []
 not-before done p ps apart =
     let here : values_given p.option (p ∷ ps) ≡ p.value ∷ values_given p.option ps =
-        ap (λ b. if b then p.value ∷ values_given p.option ps else values_given p.option ps) (same-option p.option) in
+    ap (λ b. if b then p.value ∷ values_given p.option ps else values_given p.option ps) (same-option p.option) in
     let all : values_given p.option (done ++ p ∷ ps) ≡ values_given p.option done ++ p.value ∷ values_given p.option ps =
-        values-append p.option done (p ∷ ps) ∙ ap (λ vs. values_given p.option done ++ vs) here in
+    values-append p.option done (p ∷ ps) ∙ ap (λ vs. values_given p.option done ++ vs) here in
     let few = subst (λ vs. length vs ≤ 1) all (apart p.option) in
     let long = length-append (values_given p.option done) (p.value ∷ values_given p.option ps) in
     nothing (values_given p.option done) (omega (arith, few, long))
@@ -198,7 +203,7 @@ none-passes rows pending = refl
 pub walk-pairs : (rows : List Row) (pending : Option (Text × List Text)) (done ps : List OptionWithValue)
     → settled_rows pop_rules pending rows ≡ map row_of_pair done
     → settle_passes pop_rules false (record { rows = rows; pending = pending; skip = 0 }) ≡ true → AreApart (done ++ ps) → ArePlain ps
-        → IsWalked rows pending done ps
+    → IsWalked rows pending done ps
 walk-pairs rows pending done [] settled passes apart plain = record {
   rows' = rows;
   pending' = pending;
@@ -211,12 +216,12 @@ walk-pairs rows pending done (p ∷ ps) settled passes apart plain =
     let before = settled_rows pop_rules pending rows in
     let next = Some (option_name p.option, p.value ∷ []) in
     let absent : has_row (option_name p.option) before ≡ false = ap (has_row (option_name p.option)) settled
-        ∙ no-row p.option done (not-before done p ps apart) in
+    ∙ no-row p.option done (not-before done p ps apart) in
     let same : (done ++ p ∷ []) ++ ps ≡ done ++ p ∷ ps = append_assoc done (p ∷ []) ps in
     let now : settled_rows pop_rules next before ≡ map row_of_pair (done ++ p ∷ []) =
     settled-pair before p.option p.value absent ∙ ap (λ xs. xs ++ row_of_pair p ∷ []) settled ∙ sym (map-snoc done p) in
     let more = walk-pairs before next (done ++ p ∷ []) ps now (pair-settles before p.option p.value absent)
-        (subst AreApart (sym same) apart) plain.1 in
+    (subst AreApart (sym same) apart) plain.1 in
     record {
       rows' = more.rows';
       pending' = more.pending';

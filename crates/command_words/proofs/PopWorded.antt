@@ -54,7 +54,7 @@ first-is o (p ∷ ps) more v vs e = elim (cases_Bool (is_option p.option o)) [
   | inl same ↦
       let n = same-name p.option o ∙ same in
       let given : p.value ∷ values_given o ps ≡ v ∷ vs = sym (ap (λ b. if b then p.value ∷ values_given o ps else values_given o ps) same)
-          ∙ e in
+      ∙ e in
       record {
         first = rw n (ap Some (head-is v p.value vs (values_given o ps) given));
         given = rw n refl;
@@ -97,9 +97,9 @@ store-absent : (rows : List Row) → has_row (codes "store") rows ≡ false
 unfolding default_row
 store-absent rows e =
     ap (λ b. fold with_default (if b then rows
-          else at_row (codes "store") (more_values DefaultValue (default_path ∷ [])) (default_row ∷ []) rows) (drop 1 pop_rules)) e
+    else at_row (codes "store") (more_values DefaultValue (default_path ∷ [])) (default_row ∷ []) rows) (drop 1 pop_rules)) e
     ∙ ap (λ xs. fold with_default xs (drop 1 pop_rules))
-        (at-absent (codes "store") (more_values DefaultValue (default_path ∷ [])) (default_row ∷ []) rows e)
+    (at-absent (codes "store") (more_values DefaultValue (default_path ∷ [])) (default_row ∷ []) rows e)
 
 valid : (rows : List Row) → is_given (codes "user") rows ≡ true → is_given (codes "box") rows ≡ true → is_given (codes "pass") rows ≡ true
     → (list_all default_passes pop_rules && is_valid (built pop_app).top rows false) ≡ true
@@ -111,7 +111,7 @@ taken-at w passes =
     entered_passes (built pop_app) w.stopped
     && (passes && (settle_passes pop_rules false w.held
     && (list_all default_passes pop_rules
-        && is_valid (built pop_app).top (finished pop_rules w.held) (is_some (entered (built pop_app) w.stopped)))))
+    && is_valid (built pop_app).top (finished pop_rules w.held) (is_some (entered (built pop_app) w.stopped)))))
 
 taken-is : (words : List (List ℕ))
     → takes pop_app words ≡ taken-at (fold (walked pop_rules (names_of (built pop_app))) (between [] None) words)
@@ -122,7 +122,7 @@ taken-is words = refl
 taken-end : (rows : List Row) (pending : Option (List ℕ × List (List ℕ)))
     → settle_passes pop_rules false (record { rows = rows; pending = pending; skip = 0 }) ≡ true
     → (list_all default_passes pop_rules
-          && is_valid (built pop_app).top (fold with_default (settled_rows pop_rules pending rows) pop_rules) false) ≡ true
+    && is_valid (built pop_app).top (fold with_default (settled_rows pop_rules pending rows) pop_rules) false) ≡ true
     → taken-at (between rows pending) true ≡ true
 unfolding taken-at
 taken-end rows pending last ok = rw last ok
@@ -140,13 +140,13 @@ rows-are ps None user name secret s u b p =
     let more = default_row ∷ [] in
     store-absent (map row_of_pair ps) (no-row Store ps s)
     ∙ others-stay (rows_and ps more) (first-is User ps more user [] u).there (first-is Box ps more name [] b).there
-        (first-is Pass ps more secret [] p).there (no-help ps more refl)
+    (first-is Pass ps more secret [] p).there (no-help ps more refl)
 rows-are ps (Some path) user name secret s u b p =
     let same : map row_of_pair ps ++ [] ≡ map row_of_pair ps = append-nil (map row_of_pair ps) in
     ap (λ xs. fold with_default xs pop_rules) (sym same)
     ∙ store-there (rows_and ps []) (first-is Store ps [] path [] s).there
     ∙ others-stay (rows_and ps []) (first-is User ps [] user [] u).there (first-is Box ps [] name [] b).there
-        (first-is Pass ps [] secret [] p).there (no-help ps [] refl)
+    (first-is Pass ps [] secret [] p).there (no-help ps [] refl)
 
 first-all : (ps : List OptionWithValue) (path : Option (List ℕ)) (o : PopOption) (v : List ℕ) → values_given o ps ≡ v ∷ []
     → IsFirst o (all-rows ps path) v
@@ -182,19 +182,19 @@ pub worded-pop : (words : List (List ℕ)) (path : Option (List ℕ)) (user name
 worded-pop words path user name secret w =
     let ps = w.pairs in
     let walk = walk-pairs [] None [] ps refl refl (λ o. few-of o ps path user name secret w.store_is w.user_is w.box_is w.secret_is)
-        (all-plain ps w.plain) in
+    (all-plain ps w.plain) in
     let rows : fold with_default (settled_rows pop_rules walk.pending' walk.rows') pop_rules ≡ all-rows ps path =
     ap (λ rows. fold with_default rows pop_rules) walk.settled
-      ∙ rows-are ps path user name secret w.store_is w.user_is w.box_is w.secret_is in
+    ∙ rows-are ps path user name secret w.store_is w.user_is w.box_is w.secret_is in
     let matches : matches_of pop_app words ≡ all-rows ps path = ap (matches_of pop_app) w.words_are
-        ∙ ap (λ end. finished pop_rules end.held) walk.end ∙ rows in
+    ∙ ap (λ end. finished pop_rules end.held) walk.end ∙ rows in
     let u = first-all ps path User user w.user_is in
     let b = first-all ps path Box name w.box_is in
     let p = first-all ps path Pass secret w.secret_is in
     record {
       taken = ap (takes pop_app) w.words_are ∙ taken-is (words_of_pairs ps) ∙ ap₂ taken-at walk.end walk.passes
           ∙ taken-end walk.rows' walk.pending' walk.last (ap (λ rows. list_all default_passes pop_rules
-                  && is_valid (built pop_app).top rows false) rows ∙ valid (all-rows ps path) u.given b.given p.given);
+          && is_valid (built pop_app).top rows false) rows ∙ valid (all-rows ps path) u.given b.given p.given);
       place = ap (λ rows. unwrap_or (first_of (codes "store") rows) default_path) matches
           ∙ ap (λ (o : Option (List ℕ)). unwrap_or o default_path) (store-first ps path w.store_is);
       user_is = ap (λ rows. unwrap_or (first_of (codes "user") rows) []) matches ∙ ap (λ (o : Option (List ℕ)). unwrap_or o []) u.first;

@@ -42,8 +42,11 @@ none_asks = record { taken = refl; stored = refl; sampled = refl }
 
 pub store_asks : (p : List ℕ) → IsPlainWord p → Asks (codes "--store" ∷ p ∷ []) (Some p) None
 unfolding clap_on_literals
-store_asks p q = record { taken = rw (q.long, q.short, q.end) refl; stored = rw (q.long, q.short, q.end) refl;
-      sampled = rw (q.long, q.short, q.end) refl }
+store_asks p q = record {
+  taken = rw (q.long, q.short, q.end) refl;
+  stored = rw (q.long, q.short, q.end) refl;
+  sampled = rw (q.long, q.short, q.end) refl;
+}
 
 pub sample_asks : (w : List ℕ) → IsCountWord w → Asks (codes "--sample" ∷ w ∷ []) (Some default_path) (Some w)
 unfolding clap_on_literals

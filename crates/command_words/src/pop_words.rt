@@ -58,7 +58,7 @@ pub fn read_pop_words(alloc: Global, words: &Texts) -> Result<PopWords, OptionFa
     ensures named { (path : Option (List ℕ)) (user name secret : List ℕ)
         → IsPopWorded words.now path user name secret
         → IfOk result (λ asked. (asked.path ≡ path_or_default path)
-            × ((asked.user ≡ user) × ((asked.name ≡ name) × (asked.secret ≡ secret)))) }
+        × ((asked.user ≡ user) × ((asked.name ≡ name) × (asked.secret ≡ secret)))) }
 {
     let words = as_strs(alloc, words)?;
     let values = parse_pop_options(alloc, &words)?;

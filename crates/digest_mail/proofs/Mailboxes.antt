@@ -69,7 +69,7 @@ one-message : (opens : Bool) (ls rest : List (List ℕ)) → at_message rest ≡
 one-message opens [] rest at = message-line opens [] rest refl ∙ ap (λ r. [] ∷ r) (message-ends rest at)
 one-message opens (l ∷ ls) rest at =
     message-line opens (from_quoted l) (body ls ++ rest) (not-from l)
-      ∙ ap (λ r. from_quoted l ∷ r) (one-message (length (from_quoted l) == 0) ls rest at)
+    ∙ ap (λ r. from_quoted l ∷ r) (one-message (length (from_quoted l) == 0) ls rest at)
 
 more-messages : (opens : Bool) (ls rest : List (List ℕ)) → messages_from opens (body ls ++ rest) ≡ messages_from true rest
 more-messages opens [] rest = messages-line opens [] rest refl
@@ -122,6 +122,6 @@ pub digests-are-mailboxes : (name : List ℕ) (ordinal : ℕ) (docs : List Diges
     → mbox_messages (digest_text name ordinal docs) ≡ map (λ d. lined_text d.text) docs
 digests-are-mailboxes name ordinal docs none =
     ap (λ ls. map message_text (messages_from true ls))
-      (lines-of-text (digest_lines name ordinal docs) (digest-lines-are name ordinal docs none))
+    (lines-of-text (digest_lines name ordinal docs) (digest-lines-are name ordinal docs none))
     ∙ ap (map message_text) (digest-messages name ordinal docs)
     ∙ body-texts docs

@@ -70,21 +70,21 @@ plain-last (x ∷ []) e = go (x == 10) (x == 13) e where
   go false false e = refl
 plain-last (x ∷ y ∷ xs) e = ap (λ n. get_or (x ∷ y ∷ xs) n 0 == 13) (shift (length xs))
     ∙ plain-last (y ∷ xs) (go (x == 10) (x == 13) e) where
-  shift : (n : ℕ) → suc (suc n) - 1 ≡ suc (suc n - 1)
-  shift n = omega arith
+      shift : (n : ℕ) → suc (suc n) - 1 ≡ suc (suc n - 1)
+      shift n = omega arith
 
-  go : (s t : Bool) → (not s && not t && all_plain (y ∷ xs)) ≡ true → all_plain (y ∷ xs) ≡ true
-  go true t e = absurd (grind (arith, e))
-  go false true e = absurd (grind (arith, e))
-  go false false e = e
+      go : (s t : Bool) → (not s && not t && all_plain (y ∷ xs)) ≡ true → all_plain (y ∷ xs) ≡ true
+      go true t e = absurd (grind (arith, e))
+      go false true e = absurd (grind (arith, e))
+      go false false e = e
 
 -- the end of a line decides
 last-append : (xs ys : List ℕ) → 0 < length ys → NoReturn ys → NoReturn (xs ++ ys)
 last-append [] ys some last = last
 last-append (x ∷ xs) ys some last = ap (λ n. get_or (x ∷ xs ++ ys) n 0 == 13) (shift (length (xs ++ ys)) (grind (arith, common_steps)))
     ∙ last-append xs ys some last where
-  shift : (n : ℕ) → 0 < n → suc n - 1 ≡ suc (n - 1)
-  shift n lt = omega arith
+      shift : (n : ℕ) → 0 < n → suc n - 1 ≡ suc (n - 1)
+      shift n lt = omega arith
 
 -- numbers are plain
 glyph-plain : (d : ℕ) (bytes : List ℕ) → all_plain bytes ≡ true → all_plain (digit_glyph false d ∷ bytes) ≡ true
@@ -103,11 +103,12 @@ onto-plain : (k n : ℕ) (bytes : List ℕ) → all_plain bytes ≡ true → all
 onto-plain zero n bytes e = e
 onto-plain (suc k) n bytes e =
     go (n / 10 == 0) (onto-plain k (n / 10) (digit_glyph false (n % 10) ∷ bytes) (glyph-plain (n % 10) bytes e)) where
-  go : (t : Bool) → all_plain (digits_onto k 10 false (n / 10) (digit_glyph false (n % 10) ∷ bytes)) ≡ true
-      → all_plain (if t then digit_glyph false (n % 10) ∷ bytes else digits_onto k 10 false (n / 10) (digit_glyph false (n % 10) ∷ bytes))
+      go : (t : Bool) → all_plain (digits_onto k 10 false (n / 10) (digit_glyph false (n % 10) ∷ bytes)) ≡ true
+          → all_plain (if t then digit_glyph false (n % 10) ∷ bytes
+          else digits_onto k 10 false (n / 10) (digit_glyph false (n % 10) ∷ bytes))
           ≡ true
-  go true more = glyph-plain (n % 10) bytes e
-  go false more = more
+      go true more = glyph-plain (n % 10) bytes e
+      go false more = more
 
 decimal-plain : (n : ℕ) → all_plain (decimal n) ≡ true
 unfolding digits
@@ -130,16 +131,16 @@ subject-ends name ordinal none =
     let named = NoEnd-append (codes "Subject: digest ") name (plain-NoEnd (codes "Subject: digest ") refl) none in
     let blank = NoEnd-append (codes "Subject: digest " ++ name) (codes " ") named (plain-NoEnd (codes " ") refl) in
     NoEnd-append (codes "Subject: digest " ++ name ++ codes " ") (decimal ordinal) blank
-      (plain-NoEnd (decimal ordinal) (decimal-plain ordinal))
+    (plain-NoEnd (decimal ordinal) (decimal-plain ordinal))
 
 subject-last : (name : List ℕ) (ordinal : ℕ) → NoReturn (subject_line name ordinal)
 subject-last name ordinal = subst (λ l. NoReturn l) (sym (append_assoc front (codes " ") (decimal ordinal)))
     (last-append front (32 ∷ decimal ordinal) (omega arith) (plain-last (32 ∷ decimal ordinal) number)) where
-  front : List ℕ
-  front = codes "Subject: digest " ++ name
+      front : List ℕ
+      front = codes "Subject: digest " ++ name
 
-  number : all_plain (32 ∷ decimal ordinal) ≡ true
-  number = decimal-plain ordinal
+      number : all_plain (32 ∷ decimal ordinal) ≡ true
+      number = decimal-plain ordinal
 
 -- the parts between LFs have none
 AllNoEnd : List (List ℕ) → Type 0
@@ -172,11 +173,11 @@ returns-gone line = go (suffix_len (λ b. b == 13) line) refl (cases_lt (suffix_
   go n is (inl lt) =
       let some : suffix_len (λ b. b == 13) line < length (reverse line) = grind (arith, length-reverse line, lt, is) in
       let stops : (get_or (reverse line) n 0 == 13) ≡ false = ap (λ k. get_or (reverse line) k 0 == 13) is
-          ∙ prefix_len_stops (λ b. b == 13) (reverse line) 0 some in
+      ∙ prefix_len_stops (λ b. b == 13) (reverse line) 0 some in
       let at : get_or (reverse line) n 0 ≡ get_or line (length line - 1 - n) 0 = get_or-reverse line n 0 lt in
       let long : length (take (length line - n) line) ≡ length line - n = grind (arith, length-take (length line - n) line) in
       let same : get_or (take (length line - n) line) (length (take (length line - n) line) - 1) 0 ≡ get_or line (length line - 1 - n) 0 =
-          grind (arith, common_steps, long, lt) in
+      grind (arith, common_steps, long, lt) in
       ap (λ b. b == 13) (same ∙ sym at) ∙ stops
 
 -- a line that is quoted
@@ -198,17 +199,19 @@ unfolding AllNoEnd
 quoted-lines [] none = tt
 quoted-lines (part ∷ parts) none =
     let line =
-        quoted-line (without_returns part) (NoEnd-take (length part - suffix_len (λ b. b == 13) part) part none.0) (returns-gone part) in
+    quoted-line (without_returns part) (NoEnd-take (length part - suffix_len (λ b. b == 13) part) part none.0) (returns-gone part) in
     (line.0, line.1, quoted-lines parts none.1)
 
 -- the lines of a document
 document-lines : (d : Digested) → AreLines (digested_lines d)
 document-lines d =
     let text =
-        quoted-lines (without_empty_end (slice_split is_end d.text)) (without-NoEnd (slice_split is_end d.text) (parts-NoEnd d.text)) in
-    let plain = from-plain d.doc d.first in
-    (plain-NoEnd (from_line d.doc d.first) plain, plain-last (from_line d.doc d.first) plain,
-      AreLines-append (map from_quoted (lined d.text)) ([] ∷ []) text (tt, refl, tt))
+    quoted-lines (without_empty_end (slice_split is_end d.text)) (without-NoEnd (slice_split is_end d.text) (parts-NoEnd d.text)) in
+    let plain = from-plain d.doc d.first in (
+      plain-NoEnd (from_line d.doc d.first) plain,
+      plain-last (from_line d.doc d.first) plain,
+      AreLines-append (map from_quoted (lined d.text)) ([] ∷ []) text (tt, refl, tt),
+    )
 
 all-lines : (docs : List Digested) → AreLines (flat_map digested_lines docs)
 all-lines [] = tt

@@ -15,7 +15,7 @@ use Rattle.mail_fields.specs.Digests.{without_returns, lined}
 push-return : (xs : List ℕ) → without_returns (xs ++ 13 ∷ []) ≡ without_returns xs
 push-return xs =
     let size : length (xs ++ 13 ∷ []) - (1 + suffix_len (λ b. b == 13) xs) ≡ length xs - suffix_len (λ b. b == 13) xs =
-        grind (arith, common_steps) in
+    grind (arith, common_steps) in
     rw (reverse-append xs (13 ∷ []), size) (take-append-le (length xs - suffix_len (λ b. b == 13) xs) xs (13 ∷ []) (omega arith))
 
 -- a line and its last byte
@@ -34,16 +34,16 @@ cut-return : (xs : List ℕ) → 0 < length xs → (get_or xs (length xs - 1) 0 
 cut-return xs some last =
     let is : get_or xs (length xs - 1) 0 ≡ 13 = grind (arith, last) in
     sym (push-return (take (length xs - 1) xs)) ∙ ap (λ b. without_returns (take (length xs - 1) xs ++ b ∷ [])) (sym is)
-      ∙ ap without_returns (sym (last-of xs some))
+    ∙ ap without_returns (sym (last-of xs some))
 
 -- a line without a CR at its end
 no-return : (xs : List ℕ) → (get_or xs (length xs - 1) 0 == 13) ≡ false → without_returns xs ≡ xs
 no-return [] last = refl
 no-return (x ∷ xs) last =
     let first : get_or (reverse (x ∷ xs)) 0 0 ≡ get_or (x ∷ xs) (length (x ∷ xs) - 1) 0 = get_or-reverse (x ∷ xs) 0 0 (omega arith)
-        ∙ ap (λ n. get_or (x ∷ xs) n 0) (omega arith) in
+    ∙ ap (λ n. get_or (x ∷ xs) n 0) (omega arith) in
     let none : suffix_len (λ b. b == 13) (x ∷ xs) ≡ 0 = prefix_len-drop_no (λ b. b == 13) (reverse (x ∷ xs)) 0 0
-        (grind (arith, length-reverse (x ∷ xs))) (ap (λ b. b == 13) first ∙ last) in
+    (grind (arith, length-reverse (x ∷ xs))) (ap (λ b. b == 13) first ∙ last) in
     rw none (take_all (length (x ∷ xs) - 0) (x ∷ xs) (omega arith))
 
 -- the same, by the suffix that is looked for
@@ -53,9 +53,9 @@ ends-in xs = pointwise nat_eq (drop (length xs - 1) xs) (13 ∷ [])
 ends-last : (xs : List ℕ) (b : Bool) → 0 < length xs → ends-in xs ≡ b → (get_or xs (length xs - 1) 0 == 13) ≡ b
 ends-last xs b some e = sym (both (get_or xs (length xs - 1) 0 == 13)) ∙ sym (ap (λ l. pointwise nat_eq l (13 ∷ [])) (drop-last xs some))
     ∙ e where
-  both : (t : Bool) → (t && true) ≡ t
-  both true = refl
-  both false = refl
+      both : (t : Bool) → (t && true) ≡ t
+      both true = refl
+      both false = refl
 
 one-end : (xs : List ℕ) → ends-in xs ≡ true → without_returns (take (length xs - 1) xs) ≡ without_returns xs
 one-end [] e = absurd (grind (arith, e))

@@ -89,7 +89,7 @@ pub(crate) fn push_document(
     text: &[u8],
 ) -> Result<(), Memory>
     ensures { OnOk result (lines.new ≡ lines.old
-          ++ digested_lines (record { doc = entry.doc.0; first = entry.first; text = text.now })) }
+        ++ digested_lines (record { doc = entry.doc.0; first = entry.first; text = text.now })) }
 {
     lines.push(from_of(alloc, entry)?)?;
     push_text(alloc, lines, text)?;
@@ -104,7 +104,7 @@ fn push_entry(
     doc: Option<&KeptDoc>,
 ) -> Result<(), Memory>
     ensures { OnOk result (lines.new
-          ≡ lines.old ++ flat_map digested_lines (digested_with entry (option_copied doc.entry))) }
+        ≡ lines.old ++ flat_map digested_lines (digested_with entry (option_copied doc.entry))) }
 {
     match doc {
         None => Ok(()),

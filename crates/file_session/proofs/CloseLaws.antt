@@ -22,7 +22,7 @@ module _ {D O : Type 0} {g : Ghosts D} (first : FilesOf O) (inner : Inner (FileS
       → IfOk given (λ files. IfSome files (λ both. AreClean g both.log both.db → IsHonest first over_files inner))
       → IfErr given (λ left. IsTrue (view left.1).is_clean → IsHonest first over_files inner)
       → IfOk given (λ files. IfSome files (λ both. AreClean g both.log both.db → (t : Tables) → Tells first over_files inner t
-          → AreWhole g both t))
+      → AreWhole g both t))
       → IfErr given (λ left. IsTrue (view left.1).is_clean → (t : Tables) → Tells first over_files inner t → LeavesOnly g left.1 t)
       → IfErr given (λ left. IsTrue (view left.1).is_clean → FailsToCloseOpen inner left.1 left.0)
       → IsClosedAs first inner (Some given)

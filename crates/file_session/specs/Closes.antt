@@ -56,7 +56,7 @@ pub record SessionEnd {S D : Type 0} {g : Ghosts D} (held : start.Ghosts S)
   pub inner : Inner (FileStore D g) (PathOpener S D held g) over_files
   pub ends : IsHonest (path_files held) over_files inner → (t : Tables) → ImageTells (image_at held) t →
       Ends t (HasVersion (path_files held) over_files inner) (Tells (path_files held) over_files inner)
-        (MayLeave (path_files held) over_files inner)
+      (MayLeave (path_files held) over_files inner)
   pub stopped : (is_stopped inner ≡ true) ↔ (status ≡ 5)
   pub close : IsClosedAs (path_files held) inner closed
   pub back : ComesBack inner

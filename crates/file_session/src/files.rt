@@ -39,11 +39,11 @@ fn run_over<C: StoreProgram, I: Peer<K>, K: Sink, A: Alter + Drop, O: Opener<A>,
     ensures ends_over { (t : Tables) → IsHonest O.Opener.files A.Store result.1.inner
         → ImageTells O.Opener.files.image t →
         C.ends_over words.now result.0 (I.left source.old) (I.left source.new) (K.out sink.old)
-            (K.out sink.new)
+        (K.out sink.new)
         (I.was_asked source.old) (I.was_asked source.new)
         t (ImageHasVersion O.Opener.files.image) (HasVersion O.Opener.files A.Store result.1.inner)
         (Tells O.Opener.files A.Store result.1.inner)
-            (MayLeave O.Opener.files A.Store result.1.inner) }
+        (MayLeave O.Opener.files A.Store result.1.inner) }
     ensures placed { IsPlacedBy result.0 [] (path_of result.1.inner) (C.path words.now) }
     ensures unopened { result.0 ≡ 2 → has_files result.1.inner ≡ false }
     ensures stopped { (is_stopped result.1.inner ≡ true) ↔ (result.0 ≡ 5) }
@@ -79,15 +79,15 @@ fn run_apart<C: StoreProgram, I: Peer<K>, K: Sink, A: Alter + Drop, O: Opener<A>
     ensures unopened { IfSome result.2 (λ keeper. has_files keeper.inner ≡ false) }
     ensures placed { IfSome result.2 (λ keeper.
         (((result.0 ≡ 2) ⊎ (result.0 ≡ 7)) × (path_of keeper.inner ≡ []))
-            ⊎ IsInMemory (C.path words.now)) }
+        ⊎ IsInMemory (C.path words.now)) }
     ensures refused { result.0 ≡ 2 → is_some result.1 ≡ false }
     ensures end { CallEnd O.Opener.files A.Store (λ t versions tells leaves.
         C.ends_over words.now result.0 (I.left source.old) (I.left source.new) (K.out sink.old)
-            (K.out sink.new)
+        (K.out sink.new)
         (I.was_asked source.old) (I.was_asked source.new)
         t (ImageHasVersion O.Opener.files.image) versions tells leaves) result.0
         (λ inner. IfSome result.1 (λ keeper. keeper.inner ≡ inner)
-            × IfSome result.2 (λ keeper. keeper.inner ≡ inner)) }
+        × IfSome result.2 (λ keeper. keeper.inner ≡ inner)) }
 {
     let (status, keeper) = run_over::<C, _, _, A, _, L>(rt, words, source, sink, opener, blank);
     if status == 5 || status == 6 {
@@ -133,14 +133,14 @@ pub fn run_to_close<'a, C: StoreProgram, I: Peer<K>, K: Sink, S: Start, L: Ledge
     ensures unopened { IfSome result.2 (λ keeper. has_files keeper.inner ≡ false) }
     ensures placed { IfSome result.2 (λ keeper.
         (((result.0 ≡ 2) ⊎ (result.0 ≡ 7)) × (path_of keeper.inner ≡ []))
-            ⊎ IsInMemory (C.path words.now)) }
+        ⊎ IsInMemory (C.path words.now)) }
     ensures refused { result.0 ≡ 2 → result.1 ≡ Some (Ok None) }
 
     // How the call ended over the tables that the files held initially, and what the close left of
     // those that it told.
     ensures end { SessionEnd S.Start (λ t versions tells leaves.
         C.ends_over words.now result.0 (I.left source.old) (I.left source.new) (K.out sink.old)
-            (K.out sink.new)
+        (K.out sink.new)
         (I.was_asked source.old) (I.was_asked source.new)
         t (ImageHasVersion (image_at S.Start)) versions tells leaves) result.0 result.1
         (λ inner. IfSome result.2 (λ keeper. keeper.inner ≡ inner)) }

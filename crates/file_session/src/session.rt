@@ -29,9 +29,9 @@ pub trait StoreProgram {
     ghost ends_over: { List (List ℕ) → ℕ → Option (List ℕ) → Option (List ℕ) → Option (List ℕ)
         → Option (List ℕ)
         → (Option (List ℕ) → Option (List ℕ) → Type 0)
-            → (Option (List ℕ) → Option (List ℕ) → Type 0)
+        → (Option (List ℕ) → Option (List ℕ) → Type 0)
         → TableRows → (ℤ → Type 0) → (ℤ → Type 0) → (TableRows → Type 0) → (TableRows → Type 0)
-            → Type 0 };
+        → Type 0 };
 
     // The path of the store that the words name.
     ghost path: { List (List ℕ) → List ℕ };
@@ -55,10 +55,10 @@ pub trait StoreProgram {
         ensures ends_over { (t : TableRows) → P.honest keeper.new
             → IsDurable (P.tells keeper.old) (P.may_leave keeper.old) t →
             ends_over words.now result (I.left source.old) (I.left source.new) (K.out sink.old)
-                (K.out sink.new)
+            (K.out sink.new)
             (I.was_asked source.old) (I.was_asked source.new)
             t (P.has_version keeper.old) (P.has_version keeper.new) (P.tells keeper.new)
-                (P.may_leave keeper.new) }
+            (P.may_leave keeper.new) }
         ensures unchanged { result ≡ 2 → keeper.new ≡ keeper.old }
         ensures placed { IsPlacedBy result (P.path keeper.old) (P.path keeper.new)
             (path words.now) }

@@ -96,7 +96,7 @@ is_priority n = int_le (pos 0) n && int_le n (pos 1000)
 abbrev pub rated : Condition → ℤ → ℕ → List ℕ → ℕ → Result Rule ℕ
 rated c priority priority_place class class_place =
     if is_priority priority
-        then (if is_name class then Ok (record { condition = c; priority = nat_abs priority; class = class }) else Err class_place)
+    then (if is_name class then Ok (record { condition = c; priority = nat_abs priority; class = class }) else Err class_place)
     else Err priority_place
 
 -- the rule, if its condition names neither now nor other rows: `Some` is the place of the first word that does
@@ -114,7 +114,7 @@ rule_with (Ok c) begins ends middle priority priority_place class class_place =
 abbrev pub shaped : ℕ → ℕ → List Token → Token → Option ℤ → ℕ → Bool → Option (List ℕ) → ℕ → Result Rule ℕ
 shaped len begins middle priority (Some n) n_place true (Some class) class_place =
     if is_this_word (codes "priority") priority.kind
-      then rule_with (of_tree (query_at 32 middle)) begins priority.place middle n n_place class class_place
+    then rule_with (of_tree (query_at 32 middle)) begins priority.place middle n n_place class class_place
     else Err len
 shaped len begins middle priority (Some n) n_place true None class_place = Err len
 shaped len begins middle priority (Some n) n_place false class class_place = Err len
@@ -135,7 +135,7 @@ abbrev pub rule_of_tokens : ℕ → List Token → Result Rule ℕ
 rule_of_tokens len [] = Err 0
 rule_of_tokens len (first ∷ rest) =
     if is_this_word (codes "when") first.kind then rule_at len first.place (take (length rest - 4) rest) (drop (length rest - 4) rest)
-      else Err first.place
+    else Err first.place
 
 -- the rule of a reading of a line's tokens
 abbrev pub rule_of_reading : ℕ → Result (List Token) LexFault → Result Rule ℕ

@@ -47,12 +47,12 @@ fn read_line(
 ) -> Result<(), RuleFault>
     ensures ok { OnOk result ((more : List (List ℕ)) →
         with_rules_before (map rule_view items.old)
-            (rules_at (rule_lines_from number (line.now ∷ more)))
+        (rules_at (rule_lines_from number (line.now ∷ more)))
         ≡ with_rules_before (map rule_view items.new)
-            (rules_at (rule_lines_from (suc number) more))) }
+        (rules_at (rule_lines_from (suc number) more))) }
     ensures err { IfErr result (λ fault.
         ((more : List (List ℕ)) → rules_at (rule_lines_from number (line.now ∷ more)) ≡ Err fault)
-            ⊎ (fault ≡ RuleFault.Memory)) }
+        ⊎ (fault ≡ RuleFault.Memory)) }
     ensures within { IfErr result (λ fault. IsWithin number fault) }
 {
     if is_blank_or_comment(line) {

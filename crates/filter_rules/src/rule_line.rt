@@ -169,7 +169,7 @@ fn timeless_rule(
     class_place: u32,
 ) -> Result<KeptRule, LineFault>
     ensures { ReadsRule (timeless_rule (place_of_now middle.now) (condition cond) priority
-          priority_place class.now class_place) result }
+        priority_place class.now class_place) result }
 {
     match place_of_now(middle) {
         Some(place) => Err(LineFault::At(place)),
@@ -189,7 +189,7 @@ fn rule_with(
     class_place: u32,
 ) -> Result<KeptRule, LineFault>
     ensures { ReadsRule (rule_with (of_tree (query_at 32 middle.now)) begins ends
-          middle.now priority priority_place class.now class_place) result }
+        middle.now priority priority_place class.now class_place) result }
 {
     match read_tokens(alloc, middle) {
         Ok(cond) => timeless_rule(middle, cond, priority, priority_place, class, class_place),
@@ -231,7 +231,7 @@ fn rule_at(
 // Reads the rule of the tokens after WHEN.
 fn rule_after(alloc: Global, len: u32, begins: u32, rest: &[Token]) -> Result<KeptRule, LineFault>
     ensures { ReadsRule (rule_at len begins (take (length rest.now - 4) rest.now)
-          (drop (length rest.now - 4) rest.now)) result }
+        (drop (length rest.now - 4) rest.now)) result }
 {
     if rest.len() < 4 {
         return Err(LineFault::At(len));

@@ -99,7 +99,7 @@ module _ (nodes : List TNode) (pool : IsPool kids_of nodes) where
   distinct_in kept (p ∷ probes) k h =
       let c = and_parts _ _ h in
       distinct_in (kept_with same_numbers kept p) probes (kept_one kept p k c.0) c.1
-        ∙ ap (λ ps. distinct_onto same_probe ps (probes_in nodes probes)) (kept_view kept p k c.0)
+      ∙ ap (λ ps. distinct_onto same_probe ps (probes_in nodes probes)) (kept_view kept p k c.0)
 
   parts_in : (parts : List Ranged) → map (λ part. probe_in nodes part.probe) parts ≡ probes_in nodes (part_probes parts)
   parts_in [] = refl

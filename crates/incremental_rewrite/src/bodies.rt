@@ -28,7 +28,7 @@ fn strength_of(pool: &Pool<TNode>, node: &TNode) -> u8
 // Appends the head of an EXISTS.
 fn put_binder(alloc: Global, var: Var, table: Table, into: &mut Text) -> Result<(), Memory>
     ensures { OnOk result (into.new ≡ into.old ++ codes "EXISTS (" ++ var_text var ++ codes ": "
-          ++ text_of_table table ++ codes " WHERE ") }
+        ++ text_of_table table ++ codes " WHERE ") }
 {
     into.push_slice(b"EXISTS (")?;
     put_var(alloc, var, into)?;
@@ -47,8 +47,8 @@ pub(crate) fn put_body(
 ) -> Result<(), Memory>
     requires { IsPlaceOf pool.now id.0 }
     ensures { OnOk result (into.new
-          ≡ into.old ++ parenthesized (nat_lt (condition_strength (tree_at pool.now id.0)) least)
-          (body_text (tree_at pool.now id.0))) }
+        ≡ into.old ++ parenthesized (nat_lt (condition_strength (tree_at pool.now id.0)) least)
+        (body_text (tree_at pool.now id.0))) }
 {
     let node = node_at(pool, id);
     let weak = strength_of(pool, node) < least;

@@ -137,7 +137,7 @@ pub trait Keeper {
         ensures version { honest self.new → (s : TableRows) → tells self.old s
             → AddsRowsTo change.now s
             → (v : ℤ) → has_version self.old v → stopped self.new ≡ false
-                → has_version self.new v };
+            → has_version self.new v };
 
     // It tells the tables of one store at most.
     ghost one: { (k : Self) (s t : TableRows) → tells k s → tells k t → s ≡ t };

@@ -177,7 +177,7 @@ impl Keeper for MemKeeper {
         ensures plan { ((result ≡ Err AttachFault.Memory) × (self.new ≡ self.old))
             ⊎ ((result ≡ attach_answer (planned_fault self.old.fails self.old.calls) self.old)
             × (self.new
-                  ≡ attached_at at.now (planned_fault self.old.fails self.old.calls) self.old)) }
+            ≡ attached_at at.now (planned_fault self.old.fails self.old.calls) self.old)) }
     {
         // All memory is taken first, so that a call that is out of memory changes nothing.
         let tables = self.tables.copy()?;
@@ -208,7 +208,7 @@ impl Keeper for MemKeeper {
         ensures plan { ((result ≡ Err CommitFault.Memory) × (self.new ≡ self.old))
             ⊎ ((result ≡ commit_answer (planned_fault self.old.fails self.old.calls))
             × (self.new
-                  ≡ committed change.now (planned_fault self.old.fails self.old.calls) self.old)) }
+            ≡ committed change.now (planned_fault self.old.fails self.old.calls) self.old)) }
     {
         let call = self.calls;
         let more = change.copy()?;

@@ -75,7 +75,7 @@ module _ {A O : Type 0} (files : FilesOf O) (g : Ghosts A) (old new : Inner A O 
     pub not_opened : (f : AttachFault)
         → ((f ≡ fault.Memory) × (is_stopped new ≡ false) × (path_of new ≡ path_of old) × (faults_of new ≡ faults_of old))
         ⊎ ((f ≡ fault.Failed) × (is_stopped new ≡ true) × (path_of new ≡ at) × Rose (faults_of old) (faults_of new))
-          → Attaches files g old new at (Err f)
+        → Attaches files g old new at (Err f)
     not_opened f (inl m) = subst (λ x. Attaches files g old new at (Err x)) (sym m.0) (short m.1 m.2 m.3)
     not_opened f (inr m) = subst (λ x. Attaches files g old new at (Err x)) (sym m.0) (failed m.1 m.2 m.3)
 
@@ -117,11 +117,11 @@ pub attaches_with : {A O : Type 0} (files : FilesOf O) (g : Ghosts A) (old : InM
     (result : Result Tables AttachFault)
     → is_stopped_at old.misplaced_at old.keeper.stopped ≡ false
     → Attaches {A = A} files g (Memory (record { keeper = old.keeper; misplaced_at = None }))
-        (Memory (record { keeper = now; misplaced_at = None })) at result
+    (Memory (record { keeper = now; misplaced_at = None })) at result
     → Attaches {A = A} files g (Memory old) (Memory (record { keeper = now; misplaced_at = old.misplaced_at })) at result
 attaches_with {A} files g old now at result runs a =
     subst (λ path. Attaches {A = A} files g (Memory (record { keeper = old.keeper; misplaced_at = path }))
-        (Memory (record { keeper = now; misplaced_at = path })) at result)
+    (Memory (record { keeper = now; misplaced_at = path })) at result)
     (sym (not_misplaced old.misplaced_at old.keeper.stopped runs)) a
 
 pub placed_in_memory : (now was at : List ℕ) (result : Result Tables AttachFault) → at ≡ codes ":memory:"

@@ -38,7 +38,7 @@ module _ {D : Type 0} {g : Ghosts D} (was : Held (FileStore D g)) (settled : Sho
   alone_then last stays closed db may =
       let is_open = is_told_open b (file_state was) t told in
       ap tables_of (leaves_commit was stays is_open (ap (λ (d : Database). d.trees) (settled is_open)) db (closed.quiet.outcomes db may))
-          ∙ sym (told_trees b (file_state was) t told)
+      ∙ sym (told_trees b (file_state was) t told)
 
 -- ---- and so the next session finds what the earlier one stored
 

@@ -46,7 +46,7 @@ empty_held image db t held empty (inl told) =
 empty_held image db t held empty (inr new) = new.1
 
 module _ {D : Type 0} (g : Ghosts D) (files : Files D) (only : (left : Image) → outcomes g files.log files.db left
-      → left ≡ image_of g files) (plain : HasNoSums (image_of g files)) (t : Tables)
+    → left ≡ image_of g files) (plain : HasNoSums (image_of g files)) (t : Tables)
     (told : ImageTells (image_of g files) t) where
   same_told : (now : Image) (x : Tables) → now ≡ image_of g files → ImageTells now x → x ≡ t
   same_told now x e may = image_one (image_of g files) x t (subst (λ i. ImageTells i x) e may) told
@@ -69,7 +69,7 @@ module _ {D : Type 0} (g : Ghosts D) (files : Files D) (only : (left : Image) �
       | inr stands ↦
           let size = (state_of now).page_size in
           let there =
-              ∥∥₁_map held.holds (λ p. still_holds size (image_of g files) h.1 h.3 held.db.trees p (plain held.db.trees p) may.0 stands) in
+          ∥∥₁_map held.holds (λ p. still_holds size (image_of g files) h.1 h.3 held.db.trees p (plain held.db.trees p) may.0 stands) in
           image_one may.0 x t may.2 (inl (record { db = held.db; holds = there; ours = held.ours; tables = held.tables }))
     ]
     | inr new ↦ absurd (h.0 (inl (inl new.0)))

@@ -12,15 +12,15 @@ use Rattle.sqlite.specs.Opening.{HoldsIn}
 use Rattle.keeper_file.specs.OneDatabase.{large}
 
 module _ (size : ℕ) (old : Image) (named : NamesSize old (stored_size size)) (sums : IsTrue (is_summed size)
-      → SaysSums (stored_size size) old) (db : Trees) (held : HoldsDatabase old db) (plain : reserved held.0 ≡ 0) where
+    → SaysSums (stored_size size) old) (db : Trees) (held : HoldsDatabase old db) (plain : reserved held.0 ≡ 0) where
   found_stored : stored_size held.0 ≡ stored_size size
   found_stored = elim (cases_eq (stored_size held.0) (stored_size size)) [
     | inl same ↦ same
     | inr other ↦
         let seen : ¬ (¬ IsIgnored old.log) =
-            λ read. other (sym (size_by_log held.0 old held.2.pages held.2.found read) ∙ sym (named.0 read)) in
+        λ read. other (sym (size_by_log held.0 old held.2.pages held.2.found read) ∙ sym (named.0 read)) in
         absurd (seen (λ ignored. other (sym (size_by_file held.0 old held.2.pages held.2.found (large held.0 held.1)
-                held.2.ours.file.sound ignored) ∙ sym (named.1 ignored))))
+        held.2.ours.file.sound ignored) ∙ sym (named.1 ignored))))
   ]
 
   not_summed : ¬ IsTrue (is_summed size)

@@ -47,7 +47,7 @@ module _ (image : Image) (a b : Trees) (p : HoldsDatabase image a) (q : HoldsDat
       let both : Some x.0 ≡ Some y.0 = sym x.1 ∙ ap (λ (f : PageMap). f 1) pages ∙ y.1 in
       let first : x.0 ≡ y.0 = cc in
       let word : reserved p.0 * 0x100_0000 + 0x0040_2020 ≡ reserved q.0 * 0x100_0000 + 0x0040_2020 = sym x.3 ∙ ap (λ f. be32 f 20) first
-          ∙ y.3 in
+      ∙ y.3 in
       omega (arith, word, same_stored)
 
 -- ---- at one size, one database

@@ -109,7 +109,7 @@ module _ (s t : Schema) (a b : List Wanted) (rows : List Row) (roots : List Bool
       let knows = subst (AreShaped m.shown) schemas_same m.knows in
       let alike = subst (λ k. unsorted (m.shown.shape k) ≡ unsorted (n.shown.shape k)) place (shapes_same at d low) in
       subst (λ k. layout_at m.shown k ≡ layout_at n.shown k) (sym place)
-        (layouts_same m.shown n.shown t knows n.knows named.0 alike named.3)
+      (layouts_same m.shown n.shown t knows n.knows named.0 alike named.3)
 
   pub listed_once : listed_from 0 a ≡ listed_from 0 b
   listed_once = sym m.whole ∙ ap (joined rows) (same_map rows _ _ layout_same) ∙ n.whole

@@ -60,7 +60,7 @@ module _ (size : ℕ) (pages : PageMap) (some : 0 < size) (all : AreWhole size p
   sized k low =
       let (bytes, is) = some_value (pages (suc k)) ((counted (suc k)).1 (omega arith, omega arith)) in
       length-sealed (bytes_of pages (suc k))
-          ∙ ap stored_size (ap (λ (o : Option (List ℕ)). length (unwrap_or o [])) is ∙ all.sized (suc k) bytes is)
+      ∙ ap stored_size (ap (λ (o : Option (List ℕ)). length (unwrap_or o [])) is ∙ all.sized (suc k) bytes is)
 
   at_page : (n : ℕ) → (o : Option (List ℕ)) → pages n ≡ o → IsSome o → 1 ≤ n → n ≤ count
       → Some (part row.db ((n - 1) * stored_size size) (stored_size size)) ≡ option_map sealed o

@@ -35,10 +35,10 @@ pub fn closed<D: Disk + Drop>(
         → IsCopied keeper.connection files) }
     ensures whole { IfOk result (λ files. AreClean D.Disk files.log files.db
         → (t : TableRows) → TellsAs keeper.attached (file_state keeper.connection) t
-            → AreWhole D.Disk files t) }
+        → AreWhole D.Disk files t) }
     ensures exact { IfErr result (λ left. IsTrue (view left.1).is_clean
         → (t : TableRows) → TellsAs keeper.attached (file_state keeper.connection) t
-            → LeavesOnly D.Disk left.1 t) }
+        → LeavesOnly D.Disk left.1 t) }
 
     // The disk failed, it was out of memory, or the store was shut before.
     ensures fails { IfErr result (λ left. IsTrue (view left.1).is_clean

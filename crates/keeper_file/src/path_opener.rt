@@ -109,7 +109,7 @@ impl<S: Start> Opener<FileStore<FileFrom<S>>> for PathOpener<'_, S, FileFrom<S>>
         ensures fails { IsSome self.old.start
             → IfErr result (λ fault. IfSome self.new.left (λ left. IsCleanLeft left
             → (files : _) × IsFresh true files.log × IsFresh false files.db
-                × FailsToOpen files left fault)) }
+            × FailsToOpen files left fault)) }
     {
         let Some(start) = self.start.take() else {
             return Err(AttachFault::Failed);

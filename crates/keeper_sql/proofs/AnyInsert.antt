@@ -58,7 +58,7 @@ inserts_or : (schema : Schema) (base : ℕ) (way : Conflict) (name : Name) (colu
 unfolding insert_or
 inserts_or schema base way name columns rows clauses =
     let last =
-        λ (at : ℕ) (table : Table) (s : Source). and_then (upserts schema at table base clauses) (λ found. Ok (InsertOr at way s found)) in
+    λ (at : ℕ) (table : Table) (s : Source). and_then (upserts schema at table base clauses) (λ found. Ok (InsertOr at way s found)) in
     let given = λ (at : ℕ) (table : Table). and_then (new_rows schema table base columns rows) (last at table) in
     let on = λ (at : ℕ). and_then (table_at schema at) (given at) in
     ok_then (target schema name) on (λ at.
@@ -117,7 +117,7 @@ insert_keeps : (old new : State) (returning : Option Returning) (k : Command) (t
 insert_keeps old new returning (InsertOr at how from clauses) text params count is h =
     at_place (slice_get old.now.schema.tables at) _ (h.tally, new.now) old.now.schema
     (λ table done. rows_keep (task_on old params table) (mode_of old) returning (InsertOr at how from clauses)
-        old.now.trees (h.tally, new.now) done) h.changed
+    old.now.trees (h.tally, new.now) done) h.changed
 insert_keeps old new returning _ text params count is h = absurd is
 
 pub keeps_schema : (params : Row) (old new : State) (count : ℕ) → Executes replace_meta params old new (Ok count)
@@ -125,7 +125,7 @@ pub keeps_schema : (params : Row) (old new : State) (count : ℕ) → Executes r
 unfolding ExecutesIn
 keeps_schema params old new count h =
     let ran : RunsCommand old new replace_meta h.0 (timed params h.0.formats h.1.now) (Ok count) =
-        elim (cases_Bool (shows_rows false h.0)) [
+    elim (cases_Bool (shows_rows false h.0)) [
       | inl shows ↦ absurd (let e = (rw shows at h.2).0 in cc)
       | inr runs ↦ rw runs at h.2
     ] in

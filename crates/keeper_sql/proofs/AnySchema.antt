@@ -84,7 +84,7 @@ unfolding meaning
 means_none p none schema base found h =
     with_none (command schema p.formats base p.statement) found
     (subst (λ r. and_then r (λ shown. and_then (command schema p.formats base p.statement) (λ c. Ok (c, shown))) ≡ Ok found)
-      (none schema base) h)
+    (none schema base) h)
 
 pub understood_none : (schema : Schema) (text : List ℕ) (c : Compiled) → Asks text → understood schema text ≡ Ok c → c.returning ≡ None
 understood_none schema text c asks h = understood_means IsBare schema text c (IfOk-weaker (first text) _ _ means_none asks) h

@@ -68,7 +68,7 @@ put_last : (row : Row) (n : ℕ) (xs : List Cells) → rowid row ≡ Int (pos n)
 put_last row n [] key all = refl
 put_last row n (x ∷ xs) key all =
     let less : value_cmp (rowid (as_row x)) (rowid row) ≡ Less = ap (value_cmp (Int x.0)) key ∙ value_cmp-Int x.0 (pos n)
-        ∙ less_cmp x.0 (pos n) all.0 in
+    ∙ less_cmp x.0 (pos n) all.0 in
     rw less (ap (λ l. as_row x ∷ l) (put_last row n xs key all.1))
 
 pub append_one : (tree : List Row) (n : ℕ) (rest : Row) → AreKeyed tree → NumberedBy key_number 1 tree → n ≡ length tree + 1
@@ -79,7 +79,7 @@ append_one tree n rest keyed numbered is =
     let len : length xs ≡ length tree = sym (length-map xs as_row) ∙ sym (ap length keyed.1) in
     let low = below 1 n xs (omega arith) (subst (NumberedBy key_number 1) keyed.1 numbered) (omega (arith, len, is)) in
     let put : put_row row tree ≡ tree ++ row ∷ [] = ap (put_row row) keyed.1 ∙ put_last row n xs refl low
-        ∙ ap (λ l. l ++ row ∷ []) (sym keyed.1) in
+    ∙ ap (λ l. l ++ row ∷ []) (sym keyed.1) in
     let cell : Cells = (pos n, rest) in
     let more : tree ++ row ∷ [] ≡ map as_row (xs ++ cell ∷ []) = ap (λ l. l ++ row ∷ []) keyed.1 ∙ sym (map-append as_row xs (cell ∷ [])) in
     (put, (xs ++ cell ∷ [], more, ascending_more (λ (a b : Cells). a.0 <ℤ b.0) xs cell keyed.2 low))
@@ -87,7 +87,7 @@ append_one tree n rest keyed numbered is =
 pub append_rows : {X : Type 0} (write : X → Row) (num : X → ℕ) (rest : X → Row) → ((x : X) → write x ≡ Int (pos (num x)) ∷ rest x)
     → (tree : List Row) (xs : List X) → AreKeyed tree → NumberedBy key_number 1 tree
     → NumberedBy num (length tree + 1) xs → AllByRecursion (λ x. key_number (write x) ≡ num x) xs
-        → (put_all (map write xs) tree ≡ tree ++ map write xs) × AreKeyed (tree ++ map write xs)
+    → (put_all (map write xs) tree ≡ tree ++ map write xs) × AreKeyed (tree ++ map write xs)
 append_rows write num rest shape tree [] keyed numbered next back = (sym (append-nil tree), subst AreKeyed (sym (append-nil tree)) keyed)
 append_rows write num rest shape tree (x ∷ xs) keyed numbered next back =
     let one = append_one tree (num x) (rest x) keyed numbered next.0 in
@@ -97,9 +97,11 @@ append_rows write num rest shape tree (x ∷ xs) keyed numbered next back =
     let numbered' = numbered_more 1 tree (write x) numbered key in
     let len : length (tree ++ write x ∷ []) ≡ length tree + 1 = length-append tree (write x ∷ []) in
     let next' : NumberedBy num (length (tree ++ write x ∷ []) + 1) xs = subst (λ n. NumberedBy num (n + 1) xs) (sym len) next.1 in
-    let all = append_rows write num rest shape (tree ++ write x ∷ []) xs keyed' numbered' next' back.1 in
-    (ap (put_all (map write xs)) put ∙ all.0
-      ∙ append_assoc tree (write x ∷ []) (map write xs), subst AreKeyed (append_assoc tree (write x ∷ []) (map write xs)) all.1)
+    let all = append_rows write num rest shape (tree ++ write x ∷ []) xs keyed' numbered' next' back.1 in (
+      ap (put_all (map write xs)) put ∙ all.0
+          ∙ append_assoc tree (write x ∷ []) (map write xs),
+      subst AreKeyed (append_assoc tree (write x ∷ []) (map write xs)) all.1,
+    )
 
 -- what was appended is read behind what was there
 pub read_appended : {X : Type 0} (read : Row → X) (tree new rows : List Row) (xs : List X) → new ≡ tree ++ rows → map read rows ≡ xs

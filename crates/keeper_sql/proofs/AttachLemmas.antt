@@ -39,8 +39,14 @@ none_listed db sound is =
 
 empty_tables : (db : Trees) → AreEmpty 6 1 db → tables_in db ≡ no_rows
 empty_tables db e =
-    (λ i. record { docs = map doc_in (e.0 i); notes = map note_in (e.1.0 i); queries = map query_in (e.1.1.0 i);
-        runs = map run_in (e.1.1.1.0 i); picks = map pick_in (e.1.1.1.1.0 i); filters = map filter_in (e.1.1.1.1.1.0 i) })
+    (λ i. record {
+      docs = map doc_in (e.0 i);
+      notes = map note_in (e.1.0 i);
+      queries = map query_in (e.1.1.0 i);
+      runs = map run_in (e.1.1.1.0 i);
+      picks = map pick_in (e.1.1.1.1.0 i);
+      filters = map filter_in (e.1.1.1.1.1.0 i);
+    })
 
 either_listed : (rows : List Row) (db : Trees) → tables_in db ≡ no_rows → tables_listed rows db ≡ no_rows
 either_listed [] db e = refl
@@ -48,8 +54,14 @@ either_listed (r ∷ rows) db e = e
 
 same_tables : (v : ℤ) (old new : Database) → WritesVersion v old new → tables_in new.trees ≡ tables_in old.trees
 same_tables v old new w =
-    (λ i. record { docs = map doc_in (w.docs i); notes = map note_in (w.notes i); queries = map query_in (w.queries i);
-        runs = map run_in (w.runs i); picks = map pick_in (w.picks i); filters = map filter_in (w.filters i) })
+    (λ i. record {
+      docs = map doc_in (w.docs i);
+      notes = map note_in (w.notes i);
+      queries = map query_in (w.queries i);
+      runs = map run_in (w.runs i);
+      picks = map pick_in (w.picks i);
+      filters = map filter_in (w.filters i);
+    })
 
 holds_written : (v : ℤ) (old new : Database) → HoldsStore old → WritesVersion v old new → HoldsStore new
 holds_written v old new holds w = record {
@@ -69,10 +81,10 @@ opened_tables : (old : State) (s : Tables) (new : Database) → TellsAs false ol
 opened_tables old s new (inl told) to =
     let w = to.store told.holds.schema in
     listed new (holds_written (pos 2) old.now new told.holds w) ∙ same_tables (pos 2) old.now new w ∙ sym (listed old.now told.holds)
-      ∙ sym told.tables
+    ∙ sym told.tables
 opened_tables old s new (inr told) to =
     either_listed (filter is_table_row (new.trees catalog_tree)) new.trees (empty_tables new.trees (to.none told.schema).1)
-      ∙ sym (none_listed old.now told.sound told.schema) ∙ sym told.tables
+    ∙ sym (none_listed old.now told.sound told.schema) ∙ sym told.tables
 
 keyed_none : (rows : List Row) → rows ≡ [] → AreKeyed rows
 keyed_none rows none = ([], none, tt)
@@ -97,16 +109,28 @@ opened_holds old s new sound (inr told) to =
 pub held_given : (old new : State) (s t : Tables) → IsLive new → TellsAs false old s → IsOpenedWithTables old new t → s ≡ t
 held_given old new s t live told held =
     let holds = opened_holds old s new.now (live held.1).0 told held.3 in
-    let keyed : AreAllKeyed new.now = record { docs = holds.docs; notes = holds.notes; queries = holds.queries; runs = holds.runs;
-          picks = holds.picks; filters = holds.filters } in
+    let keyed : AreAllKeyed new.now = record {
+      docs = holds.docs;
+      notes = holds.notes;
+      queries = holds.queries;
+      runs = holds.runs;
+      picks = holds.picks;
+      filters = holds.filters;
+    } in
     sym (opened_tables old s new.now told held.3) ∙ listed new.now holds ∙ sym (held.4 keyed)
 
 -- the tables that were read are those that the store tells, if it tells any
 pub read_told : (new : State) (given t : Tables) → AreRead new.now given → TellsAs true new t → t ≡ given
 read_told new given t read told =
     let holds = told.holds in
-    let keyed : AreAllKeyed new.now = record { docs = holds.docs; notes = holds.notes; queries = holds.queries; runs = holds.runs;
-          picks = holds.picks; filters = holds.filters } in
+    let keyed : AreAllKeyed new.now = record {
+      docs = holds.docs;
+      notes = holds.notes;
+      queries = holds.queries;
+      runs = holds.runs;
+      picks = holds.picks;
+      filters = holds.filters;
+    } in
     told.tables ∙ listed new.now holds ∙ sym (read.rows holds.schema keyed)
 
 -- and then its version is 2
@@ -119,8 +143,11 @@ pub held_told : (old new : State) (s t : Tables) → HasCleanDisk new → IsLive
 held_told old new s t clean live exact told held =
     let holds = opened_holds old s new.now (live held.1).0 told held.3 in
     let tables = opened_tables old s new.now told held.3 in
-    record { told = record { clean = clean; is_open = held.1; holds = holds; tables = sym tables }; exact = λ x left. left.2
-        ∙ ap tables_of (exact left.0 left.1) ∙ tables }
+    record {
+      told = record { clean = clean; is_open = held.1; holds = holds; tables = sym tables };
+      exact = λ x left. left.2
+          ∙ ap tables_of (exact left.0 left.1) ∙ tables;
+    }
 
 told_trees : (s : State) (t : Tables) → TellsAs false s t → t ≡ tables_of s.now.trees
 told_trees s t (inl told) = told.tables
@@ -128,17 +155,30 @@ told_trees s t (inr told) = told.tables
 
 told_same : (old new : State) (s : Tables) → HasCleanDisk new → TellsAs false old s → IsTrue new.is_open → new.now ≡ old.now
     → TellsAs false new s
-told_same old new s clean (inl told) now same = inl (record { clean = clean; is_open = now; holds = subst HoldsStore (sym same) told.holds;
-        tables = told.tables ∙ ap (λ (d : Database). tables_of d.trees) (sym same) })
+told_same old new s clean (inl told) now same = inl (record {
+  clean = clean;
+  is_open = now;
+  holds = subst HoldsStore (sym same) told.holds;
+  tables = told.tables ∙ ap (λ (d : Database). tables_of d.trees) (sym same);
+})
 told_same old new s clean (inr told) now same =
-    inr (record { clean = clean; is_open = now; sound = subst IsDatabase (sym same) told.sound; schema = ap (λ (d : Database). d.schema)
-            same ∙ told.schema; tables = told.tables ∙ ap (λ (d : Database). tables_of d.trees) (sym same) })
+    inr (record {
+      clean = clean;
+      is_open = now;
+      sound = subst IsDatabase (sym same) told.sound;
+      schema = ap (λ (d : Database). d.schema)
+          same ∙ told.schema;
+      tables = told.tables ∙ ap (λ (d : Database). tables_of d.trees) (sym same);
+    })
 
 pub still_told : (old new : State) (s : Tables) → HasCleanDisk new → TellsAs false old s → IsTrue new.is_open → new.now ≡ old.now
     → LeavesOnlyTrees new new.now.trees → IsDurable (TellsAs false new) (MayLeave new) s
 still_told old new s clean told now same exact =
-    record { told = told_same old new s clean told now same; exact = λ x left. left.2 ∙ ap tables_of (exact left.0 left.1)
-        ∙ ap (λ (d : Database). tables_of d.trees) same ∙ sym (told_trees old s told) }
+    record {
+      told = told_same old new s clean told now same;
+      exact = λ x left. left.2 ∙ ap tables_of (exact left.0 left.1)
+          ∙ ap (λ (d : Database). tables_of d.trees) same ∙ sym (told_trees old s told);
+    }
 
 pub left_still : (old new : State) (s : Tables) → TellsAs false old s
     → ((db : Trees) → new.may_leave db → (db ≡ old.now.trees) ⊎ IsAfterOpen old db) → (x : Tables) → MayLeave new x → x ≡ s

@@ -26,8 +26,14 @@ pub makes_by : (before : Schema) (n : ℕ) (after : Schema) (m : ℕ) (old new :
     → ExecutesInside 0 sql [] old new (Ok count) → (IsMade before n old.now → Executes sql [] old new (Ok count) → IsMade after m new.now)
     → (old.now.schema ≡ store_schema → Executes sql [] old new (Ok count) → new.now ≡ old.now) → Makes before n after m old new
 makes_by before n after m old new sql count h made kept =
-    record { was_open = λ _. h.1.was_open; is_open = λ _. h.1.is_open; mode = h.1.mode; committed = h.1.committed_is;
-        made = λ was. made was h.0; kept = λ has. kept has h.0 }
+    record {
+      was_open = λ _. h.1.was_open;
+      is_open = λ _. h.1.is_open;
+      mode = h.1.mode;
+      committed = h.1.committed_is;
+      made = λ was. made was h.0;
+      kept = λ has. kept has h.0;
+    }
 
 pub makes_then : (a : Schema) (i : ℕ) (b : Schema) (j : ℕ) (d : Schema) (k : ℕ) (old mid new : State) → Makes a i b j old mid
     → Makes b j d k mid new → Makes a i d k old new
@@ -44,9 +50,9 @@ makes_then a i b j d k old mid new p q = record {
 creates : (text : List ℕ) (table : Table) (before : Schema) → command_of (understood before text) ≡ CreateTable
     → statement_of text (understood before text) ≡ text → table_defined_by text ≡ Ok table
     → IsPlain (understood before text) → lacks_sequence (created before table) ≡ false → (old new : State) (count : ℕ)
-        → old.now.schema ≡ before → Executes text [] old new (Ok count)
+    → old.now.schema ≡ before → Executes text [] old new (Ok count)
     → (new.now.schema ≡ created before table) × (new.now.trees (next_tree before) ≡ [])
-        × KeepsRows before.tables old.now.trees new.now.trees
+    × KeepsRows before.tables old.now.trees new.now.trees
 creates text table before is whole defined plain counted old new count has h =
     let w = runs_as text [] old new before has CreateTable is plain count h in
     let all = went (subst (λ t. Does old.step_limit (mode_of old) [] old.now t None CreateTable (Ok (w.tally, new.now))) whole w.changed) in
@@ -71,7 +77,7 @@ pub makes_meta : (old new : State) (count : ℕ) → IsMade schema_prefix_0 0 ol
     → IsMade schema_prefix_1 1 new.now
 makes_meta old new count was h =
     let all = creates create_meta (meta_at 0) schema_prefix_0 meta_made.0 meta_made.1 meta_made.2 meta_made_plain refl old new count
-        was.schema h in
+    was.schema h in
     record { schema = all.0; empty = (all.1, tt) }
 
 pub keeps_meta : (old new : State) (count : ℕ) → old.now.schema ≡ store_schema → Executes create_meta [] old new (Ok count)
@@ -82,7 +88,7 @@ pub makes_docs : (old new : State) (count : ℕ) → IsMade schema_prefix_1 1 ol
     → IsMade schema_prefix_2 2 new.now
 makes_docs old new count was h =
     let all = creates create_docs (docs_at 0) schema_prefix_1 docs_made.0 docs_made.1 docs_made.2 docs_made_plain refl old new count
-        was.schema h in
+    was.schema h in
     record { schema = all.0; empty = (all.2.0 ∙ was.empty.0, (all.1, tt)) }
 
 pub keeps_docs : (old new : State) (count : ℕ) → old.now.schema ≡ store_schema → Executes create_docs [] old new (Ok count)
@@ -93,7 +99,7 @@ pub makes_notes : (old new : State) (count : ℕ) → IsMade schema_prefix_2 2 o
     → IsMade schema_prefix_3 3 new.now
 makes_notes old new count was h =
     let all = creates create_notes (notes_at 0) schema_prefix_2 notes_made.0 notes_made.1 notes_made.2 notes_made_plain refl old new count
-        was.schema h in
+    was.schema h in
     record { schema = all.0; empty = (all.2.0 ∙ was.empty.0, (all.2.1.0 ∙ was.empty.1.0, (all.1, tt))) }
 
 pub keeps_notes : (old new : State) (count : ℕ) → old.now.schema ≡ store_schema → Executes create_notes [] old new (Ok count)
@@ -104,7 +110,7 @@ pub makes_queries : (old new : State) (count : ℕ) → IsMade schema_prefix_3 3
     → IsMade schema_prefix_4 4 new.now
 makes_queries old new count was h =
     let all = creates create_queries (queries_at 0) schema_prefix_3 queries_made.0 queries_made.1 queries_made.2 queries_made_plain refl old
-        new count was.schema h in
+    new count was.schema h in
     record { schema = all.0; empty = (all.2.0 ∙ was.empty.0, (all.2.1.0 ∙ was.empty.1.0, (all.2.1.1.0 ∙ was.empty.1.1.0, (all.1, tt)))) }
 
 pub keeps_queries : (old new : State) (count : ℕ) → old.now.schema ≡ store_schema → Executes create_queries [] old new (Ok count)
@@ -115,9 +121,15 @@ pub makes_runs : (old new : State) (count : ℕ) → IsMade schema_prefix_4 4 ol
     → IsMade schema_prefix_5 5 new.now
 makes_runs old new count was h =
     let all = creates create_runs (runs_at 0) schema_prefix_4 runs_made.0 runs_made.1 runs_made.2 runs_made_plain refl old new count
-        was.schema h in
-    record { schema = all.0; empty = (all.2.0
-          ∙ was.empty.0, (all.2.1.0 ∙ was.empty.1.0, (all.2.1.1.0 ∙ was.empty.1.1.0, (all.2.1.1.1.0 ∙ was.empty.1.1.1.0, (all.1, tt))))) }
+    was.schema h in
+    record {
+      schema = all.0;
+      empty = (
+        all.2.0
+            ∙ was.empty.0,
+        (all.2.1.0 ∙ was.empty.1.0, (all.2.1.1.0 ∙ was.empty.1.1.0, (all.2.1.1.1.0 ∙ was.empty.1.1.1.0, (all.1, tt)))),
+      );
+    }
 
 pub keeps_runs : (old new : State) (count : ℕ) → old.now.schema ≡ store_schema → Executes create_runs [] old new (Ok count)
     → new.now ≡ old.now
@@ -127,9 +139,17 @@ pub makes_picks : (old new : State) (count : ℕ) → IsMade schema_prefix_5 5 o
     → IsMade schema_prefix_6 6 new.now
 makes_picks old new count was h =
     let all = creates create_picks (picks_at 0) schema_prefix_5 picks_made.0 picks_made.1 picks_made.2 picks_made_plain refl old new count
-        was.schema h in
-    record { schema = all.0; empty = (all.2.0 ∙ was.empty.0, (all.2.1.0 ∙ was.empty.1.0,
-            (all.2.1.1.0 ∙ was.empty.1.1.0, (all.2.1.1.1.0 ∙ was.empty.1.1.1.0, (all.2.1.1.1.1.0 ∙ was.empty.1.1.1.1.0, (all.1, tt)))))) }
+    was.schema h in
+    record {
+      schema = all.0;
+      empty = (
+        all.2.0 ∙ was.empty.0,
+        (
+          all.2.1.0 ∙ was.empty.1.0,
+          (all.2.1.1.0 ∙ was.empty.1.1.0, (all.2.1.1.1.0 ∙ was.empty.1.1.1.0, (all.2.1.1.1.1.0 ∙ was.empty.1.1.1.1.0, (all.1, tt)))),
+        ),
+      );
+    }
 
 pub keeps_picks : (old new : State) (count : ℕ) → old.now.schema ≡ store_schema → Executes create_picks [] old new (Ok count)
     → new.now ≡ old.now
@@ -139,9 +159,24 @@ pub makes_filters : (old new : State) (count : ℕ) → IsMade schema_prefix_6 6
     → IsMade schema_prefix_7 7 new.now
 makes_filters old new count was h =
     let all = creates create_filters (filters_at 0) schema_prefix_6 filters_made.0 filters_made.1 filters_made.2 filters_made_plain refl old
-        new count was.schema h in
-    record { schema = all.0; empty = (all.2.0 ∙ was.empty.0, (all.2.1.0 ∙ was.empty.1.0, (all.2.1.1.0 ∙ was.empty.1.1.0, (all.2.1.1.1.0
-                ∙ was.empty.1.1.1.0, (all.2.1.1.1.1.0 ∙ was.empty.1.1.1.1.0, (all.2.1.1.1.1.1.0 ∙ was.empty.1.1.1.1.1.0, (all.1, tt))))))) }
+    new count was.schema h in
+    record {
+      schema = all.0;
+      empty = (
+        all.2.0 ∙ was.empty.0,
+        (
+          all.2.1.0 ∙ was.empty.1.0,
+          (
+            all.2.1.1.0 ∙ was.empty.1.1.0,
+            (
+              all.2.1.1.1.0
+                  ∙ was.empty.1.1.1.0,
+              (all.2.1.1.1.1.0 ∙ was.empty.1.1.1.1.0, (all.2.1.1.1.1.1.0 ∙ was.empty.1.1.1.1.1.0, (all.1, tt))),
+            ),
+          ),
+        ),
+      );
+    }
 
 pub keeps_filters : (old new : State) (count : ℕ) → old.now.schema ≡ store_schema → Executes create_filters [] old new (Ok count)
     → new.now ≡ old.now

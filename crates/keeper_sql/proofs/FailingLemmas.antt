@@ -77,13 +77,13 @@ module _ {S : Type 0} (g : Ghosts S) where
   -- a statement after calls that succeeded
   pub step_fails : {T : Type 0} (One How : State → State → Error → Type 0) (old mid new : Held S) (r : Result T Error) → GoesOn g old mid
       → ((e : Error) → One (state g mid) (state g new) e → How (state g mid) (state g new) e) → HasCleanDisk (state g new)
-          → FailsBy g mid new r One → IfErr r (FailsLater g old new How)
+      → FailsBy g mid new r One → IfErr r (FailsLater g old new How)
   step_fails One How old mid new r p also clean h = IfErr-weaker r _ _ (λ e x. (mid, p, also e x)) (h clean p.mode)
 
   -- several statements after calls that succeeded
   pub then_fails : {T : Type 0} (One How : State → State → Error → Type 0) (old mid new : Held S) (r : Result T Error) → GoesOn g old mid
       → ((a b : State) (e : Error) → One a b e → How a b e) → HasCleanDisk (state g new) → FailsWithin g mid new r One
-          → IfErr r (FailsLater g old new How)
+      → IfErr r (FailsLater g old new How)
   then_fails One How old mid new r p also clean h =
       IfErr-weaker r _ _ (λ e x. later How old mid new e p (wider One How mid new e (λ a b. also a b e) x)) (h clean p.mode)
 

@@ -20,7 +20,7 @@ use Rattle.keeper_sql.proofs.InsertTexts.{pick_terms, pick_inserted, pick_plain}
 
 pub puts_pick : (old new : State) (x0 : ℤ) (x1 : ℤ) (x2 : ℤ) (x3 : ℤ) (x4 : ℤ) (count : ℕ) → old.now.schema ≡ store_schema
     → Executes insert_pick (Int x0 ∷ Int x1 ∷ Int x2 ∷ Int x3 ∷ Int x4 ∷ []) old new (Ok count)
-        → Puts (only 5 ((Int x0 ∷ Null ∷ Int x1 ∷ Int x2 ∷ Int x3 ∷ Int x4 ∷ []) ∷ [])) old.now new.now
+    → Puts (only 5 ((Int x0 ∷ Null ∷ Int x1 ∷ Int x2 ∷ Int x3 ∷ Int x4 ∷ []) ∷ [])) old.now new.now
 puts_pick old new x0 x1 x2 x3 x4 count has h =
     let params : Row = Int x0 ∷ Int x1 ∷ Int x2 ∷ Int x3 ∷ Int x4 ∷ [] in
     let db = old.now.trees in
@@ -28,7 +28,7 @@ puts_pick old new x0 x1 x2 x3 x4 count has h =
     let w = runs_as insert_pick params old new store_schema has command pick_inserted pick_plain count h in
     let text = statement_of insert_pick (understood store_schema insert_pick) in
     let done = went (subst (λ s. Does old.step_limit (mode_of old) params (record old.now { schema = s }) text None command
-            (Ok (w.tally, new.now))) has w.changed) in
+    (Ok (w.tally, new.now))) has w.changed) in
     let now = ap (λ (p : Tally × Database). p.1) (same_value (went (went done.2).2).2) in
     let given = went done.1 in
     let written = went (went given.2).2 in
@@ -36,8 +36,8 @@ puts_pick old new x0 x1 x2 x3 x4 count has h =
     let trees : done.0.trees ≡ written.0 = ap (λ (it : Written). it.trees) (same_value counted.2) ∙ same_value counted.1 in
     let step = one_step store_schema _ db written.0 (edit_of db (picks_at 5) [] Chosen 0 given.0) refl written.1 in
     let edit : edited db (edit_of db (picks_at 5) [] Chosen 0 given.0) ≡ put_row (Int x0 ∷ Null ∷ Int x1 ∷ Int x2 ∷ Int x3 ∷ Int x4 ∷ [])
-        (db 5) = ap (λ all. edited db (edit_of db (picks_at 5) [] Chosen 0 all)) given.1.1
-        ∙ rw (cast_int x0, cast_null, cast_int x1, cast_int x2, cast_int x3, cast_int x4) refl in
+    (db 5) = ap (λ all. edited db (edit_of db (picks_at 5) [] Chosen 0 all)) given.1.1
+    ∙ rw (cast_int x0, cast_null, cast_int x1, cast_int x2, cast_int x3, cast_int x4) refl in
     let tree : (t : ℕ) → new.now.trees t ≡ written.0 t = λ t. ap (λ (d : Database). d.trees t) now ∙ ap (λ (all : Trees). all t) trees in
     record {
       sound = λ _. w.sound;

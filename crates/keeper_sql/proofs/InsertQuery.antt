@@ -20,7 +20,7 @@ use Rattle.keeper_sql.proofs.InsertTexts.{query_terms, query_inserted, query_pla
 
 pub puts_query : (old new : State) (x0 : ℤ) (x1 : List ℕ) (x2 : List ℕ) (x3 : List ℕ) (x4 : ℤ) (count : ℕ) → old.now.schema ≡ store_schema
     → Executes insert_query (Int x0 ∷ Blob x1 ∷ Blob x2 ∷ Blob x3 ∷ Int x4 ∷ []) old new (Ok count)
-        → Puts (only 3 ((Int x0 ∷ Null ∷ Blob x1 ∷ Blob x2 ∷ Blob x3 ∷ Int x4 ∷ []) ∷ [])) old.now new.now
+    → Puts (only 3 ((Int x0 ∷ Null ∷ Blob x1 ∷ Blob x2 ∷ Blob x3 ∷ Int x4 ∷ []) ∷ [])) old.now new.now
 puts_query old new x0 x1 x2 x3 x4 count has h =
     let params : Row = Int x0 ∷ Blob x1 ∷ Blob x2 ∷ Blob x3 ∷ Int x4 ∷ [] in
     let db = old.now.trees in
@@ -28,7 +28,7 @@ puts_query old new x0 x1 x2 x3 x4 count has h =
     let w = runs_as insert_query params old new store_schema has command query_inserted query_plain count h in
     let text = statement_of insert_query (understood store_schema insert_query) in
     let done = went (subst (λ s. Does old.step_limit (mode_of old) params (record old.now { schema = s }) text None command
-            (Ok (w.tally, new.now))) has w.changed) in
+    (Ok (w.tally, new.now))) has w.changed) in
     let now = ap (λ (p : Tally × Database). p.1) (same_value (went (went done.2).2).2) in
     let given = went done.1 in
     let written = went (went given.2).2 in
@@ -36,8 +36,8 @@ puts_query old new x0 x1 x2 x3 x4 count has h =
     let trees : done.0.trees ≡ written.0 = ap (λ (it : Written). it.trees) (same_value counted.2) ∙ same_value counted.1 in
     let step = one_step store_schema _ db written.0 (edit_of db (queries_at 3) [] Chosen 0 given.0) refl written.1 in
     let edit : edited db (edit_of db (queries_at 3) [] Chosen 0 given.0)
-        ≡ put_row (Int x0 ∷ Null ∷ Blob x1 ∷ Blob x2 ∷ Blob x3 ∷ Int x4 ∷ []) (db 3) =
-        ap (λ all. edited db (edit_of db (queries_at 3) [] Chosen 0 all)) given.1.1 ∙ rw (cast_int x0, cast_null, cast_int x4) refl in
+    ≡ put_row (Int x0 ∷ Null ∷ Blob x1 ∷ Blob x2 ∷ Blob x3 ∷ Int x4 ∷ []) (db 3) =
+    ap (λ all. edited db (edit_of db (queries_at 3) [] Chosen 0 all)) given.1.1 ∙ rw (cast_int x0, cast_null, cast_int x4) refl in
     let tree : (t : ℕ) → new.now.trees t ≡ written.0 t = λ t. ap (λ (d : Database). d.trees t) now ∙ ap (λ (all : Trees). all t) trees in
     record {
       sound = λ _. w.sound;

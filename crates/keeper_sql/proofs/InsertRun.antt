@@ -20,7 +20,7 @@ use Rattle.keeper_sql.proofs.InsertTexts.{run_terms, run_inserted, run_plain}
 
 pub puts_run : (old new : State) (x0 : ℤ) (x1 : ℤ) (x2 : ℤ) (count : ℕ) → old.now.schema ≡ store_schema
     → Executes insert_run (Int x0 ∷ Int x1 ∷ Int x2 ∷ []) old new (Ok count)
-        → Puts (only 4 ((Int x0 ∷ Null ∷ Int x1 ∷ Int x2 ∷ []) ∷ [])) old.now new.now
+    → Puts (only 4 ((Int x0 ∷ Null ∷ Int x1 ∷ Int x2 ∷ []) ∷ [])) old.now new.now
 puts_run old new x0 x1 x2 count has h =
     let params : Row = Int x0 ∷ Int x1 ∷ Int x2 ∷ [] in
     let db = old.now.trees in
@@ -28,7 +28,7 @@ puts_run old new x0 x1 x2 count has h =
     let w = runs_as insert_run params old new store_schema has command run_inserted run_plain count h in
     let text = statement_of insert_run (understood store_schema insert_run) in
     let done = went (subst (λ s. Does old.step_limit (mode_of old) params (record old.now { schema = s }) text None command
-            (Ok (w.tally, new.now))) has w.changed) in
+    (Ok (w.tally, new.now))) has w.changed) in
     let now = ap (λ (p : Tally × Database). p.1) (same_value (went (went done.2).2).2) in
     let given = went done.1 in
     let written = went (went given.2).2 in
@@ -36,8 +36,8 @@ puts_run old new x0 x1 x2 count has h =
     let trees : done.0.trees ≡ written.0 = ap (λ (it : Written). it.trees) (same_value counted.2) ∙ same_value counted.1 in
     let step = one_step store_schema _ db written.0 (edit_of db (runs_at 4) [] Chosen 0 given.0) refl written.1 in
     let edit : edited db (edit_of db (runs_at 4) [] Chosen 0 given.0) ≡ put_row (Int x0 ∷ Null ∷ Int x1 ∷ Int x2 ∷ []) (db 4) =
-        ap (λ all. edited db (edit_of db (runs_at 4) [] Chosen 0 all)) given.1.1
-        ∙ rw (cast_int x0, cast_null, cast_int x1, cast_int x2) refl in
+    ap (λ all. edited db (edit_of db (runs_at 4) [] Chosen 0 all)) given.1.1
+    ∙ rw (cast_int x0, cast_null, cast_int x1, cast_int x2) refl in
     let tree : (t : ℕ) → new.now.trees t ≡ written.0 t = λ t. ap (λ (d : Database). d.trees t) now ∙ ap (λ (all : Trees). all t) trees in
     record {
       sound = λ _. w.sound;

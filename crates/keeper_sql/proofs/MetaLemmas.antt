@@ -70,12 +70,21 @@ put_step limit keys db one h =
     let next = made.0 in
     let step = one_step store_schema keys db next (edit_of db (meta_at 0) [] Given 0 (source ∷ [])) refl made.1 in
     let edit : edited db (edit_of db (meta_at 0) [] Given 0 (source ∷ [])) ≡ put_row source (db 0) =
-        rw (cast_int (pos 1), cast_null, cast_int (pos 2)) refl in
+    rw (cast_int (pos 1), cast_null, cast_int (pos 2)) refl in
     let trees : one.trees ≡ next = ap (λ (w : Written). w.trees) (same_value made.2) in
-    let at : (t : ℕ) → one.trees t ≡ next t = λ t. ap (λ (all : Trees). all t) trees in
-    (at 0 ∙ step.rows ∙ edit, (at 1 ∙ step.tables.1.0 (omega arith), at 2 ∙ step.tables.1.1.0 (omega arith), at 3
-        ∙ step.tables.1.1.1.0 (omega arith), at 4 ∙ step.tables.1.1.1.1.0 (omega arith), at 5 ∙ step.tables.1.1.1.1.1.0 (omega arith), at 6
-        ∙ step.tables.1.1.1.1.1.1.0 (omega arith)))
+    let at : (t : ℕ) → one.trees t ≡ next t = λ t. ap (λ (all : Trees). all t) trees in (
+      at 0 ∙ step.rows ∙ edit,
+      (
+        at 1 ∙ step.tables.1.0 (omega arith),
+        at 2 ∙ step.tables.1.1.0 (omega arith),
+        at 3
+            ∙ step.tables.1.1.1.0 (omega arith),
+        at 4 ∙ step.tables.1.1.1.1.0 (omega arith),
+        at 5 ∙ step.tables.1.1.1.1.1.0 (omega arith),
+        at 6
+            ∙ step.tables.1.1.1.1.1.1.0 (omega arith),
+      ),
+    )
 
 then_same : (a b d : Trees) → SameTrees a b → SameTrees b d → SameTrees a d
 then_same a b d p q = (q.0 ∙ p.0, q.1 ∙ p.1, q.2 ∙ p.2, q.3 ∙ p.3, q.4 ∙ p.4, q.5 ∙ p.5)
@@ -98,9 +107,15 @@ cleared limit keys db version one x more row is h =
     let edit = edit_of db (meta_at 0) (ids_of (x ∷ more)) Given 0 [] in
     let step = one_step store_schema keys db mid edit refl went_on.1 in
     let left : without_all (db 0) (ids_of (x ∷ more)) ≡ [] =
-        rw (row, is) (ap (λ rows. without_all rows (ids_of more)) (gone version) ∙ none_left (ids_of more)) in
-    let same : SameTrees db mid = (step.tables.1.0 (omega arith), step.tables.1.1.0 (omega arith), step.tables.1.1.1.0 (omega arith),
-          step.tables.1.1.1.1.0 (omega arith), step.tables.1.1.1.1.1.0 (omega arith), step.tables.1.1.1.1.1.1.0 (omega arith)) in
+    rw (row, is) (ap (λ rows. without_all rows (ids_of more)) (gone version) ∙ none_left (ids_of more)) in
+    let same : SameTrees db mid = (
+      step.tables.1.0 (omega arith),
+      step.tables.1.1.0 (omega arith),
+      step.tables.1.1.1.0 (omega arith),
+      step.tables.1.1.1.1.0 (omega arith),
+      step.tables.1.1.1.1.1.0 (omega arith),
+      step.tables.1.1.1.1.1.1.0 (omega arith),
+    ) in
     let put = put_empty limit keys mid one (step.rows ∙ left) went_on.2 in
     (put.0, then_same db mid one.trees same put.1)
 
@@ -189,8 +204,8 @@ wrote old new count has h =
     let w = runs_as replace_meta [] old new store_schema has command meta_replaced meta_plain count h in
     let text = statement_of replace_meta (understood store_schema replace_meta) in
     let done =
-        went (subst (λ s. Does old.step_limit (mode_of old) [] (record old.now { schema = s }) text None command (Ok (w.tally, new.now)))
-          has w.changed) in
+    went (subst (λ s. Does old.step_limit (mode_of old) [] (record old.now { schema = s }) text None command (Ok (w.tally, new.now)))
+    has w.changed) in
     record {
       sound = w.sound;
       rows = done.0;

@@ -62,9 +62,10 @@ pub picks_numbered : (runs : List RunRow) (docs : List Doc) (earlier : List Pick
     → NumberedBy (λ (p : Pick). p.num) place picks
 picks_numbered runs docs earlier place before [] h = tt
 picks_numbered runs docs earlier place before (p ∷ picks) h =
-    let parts = two _ _ h in
-    (same p.num place (two _ _ (two _ _ (two _ _ parts.0).0).0).0,
-      picks_numbered runs docs (earlier ++ p ∷ []) (place + 1) (Some p) picks parts.1)
+    let parts = two _ _ h in (
+      same p.num place (two _ _ (two _ _ (two _ _ parts.0).0).0).0,
+      picks_numbered runs docs (earlier ++ p ∷ []) (place + 1) (Some p) picks parts.1,
+    )
 
 pub filter_numbered : (place : ℕ) (low : ℤ) (f : FilterRow) → filter_stands place low f ≡ true → f.num ≡ place
 filter_numbered place low f h = same f.num place (two _ _ (two _ _ h).0).0

@@ -29,9 +29,19 @@ opens_at v old mid new made settled = record {
     was = λ has w row. settled.was w (ap (λ (d : Database). d.trees 0) (made.kept has) ∙ row);
     none = λ none.
         let all = made.made (record { schema = none; empty = tt }) in
-        let w = settled.writes in
-        (settled.fresh all.empty.0, (w.docs ∙ all.empty.1.0, (w.notes ∙ all.empty.1.1.0, (w.queries ∙ all.empty.1.1.1.0,
-                (w.runs ∙ all.empty.1.1.1.1.0, (w.picks ∙ all.empty.1.1.1.1.1.0, (w.filters ∙ all.empty.1.1.1.1.1.1.0, tt)))))));
+        let w = settled.writes in (
+          settled.fresh all.empty.0,
+          (
+            w.docs ∙ all.empty.1.0,
+            (
+              w.notes ∙ all.empty.1.1.0,
+              (
+                w.queries ∙ all.empty.1.1.1.0,
+                (w.runs ∙ all.empty.1.1.1.1.0, (w.picks ∙ all.empty.1.1.1.1.1.0, (w.filters ∙ all.empty.1.1.1.1.1.1.0, tt))),
+              ),
+            ),
+          ),
+        );
   };
 }
 

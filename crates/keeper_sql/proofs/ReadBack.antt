@@ -23,8 +23,15 @@ pub read_note : (n : Note) → (n.num.0 < 2 ^ 32) × (n.doc.0 < 2 ^ 32) → note
 read_note n low =
     let num = number n.num.0 low.0 in
     let doc = number n.doc.0 low.1 in
-    (λ i. record { num = record { 0 = num i }; doc = record { 0 = doc i }; author = n.author; kind = n.kind; value = n.value;
-        arrival = n.arrival; text = n.text })
+    (λ i. record {
+      num = record { 0 = num i };
+      doc = record { 0 = doc i };
+      author = n.author;
+      kind = n.kind;
+      value = n.value;
+      arrival = n.arrival;
+      text = n.text;
+    })
 
 pub read_query : (q : QueryRow) → q.num.0 < 2 ^ 32 → query_in (as_kept (given_query q)) ≡ q
 read_query q low =
@@ -55,4 +62,4 @@ pub read_more : {X : Type 0} (read : Row → X) (write : X → Row) (first : Lis
     → map read (map write first) ≡ first → read (write x) ≡ x → map read rows ≡ all
 read_more read write first x rows all is more before last =
     ap (map read) is ∙ map-append read (map write first) (write x ∷ []) ∙ ap (λ l. l ++ read (write x) ∷ []) before
-      ∙ ap (λ y. first ++ y ∷ []) last ∙ sym more
+    ∙ ap (λ y. first ++ y ∷ []) last ∙ sym more

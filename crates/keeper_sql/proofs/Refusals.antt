@@ -59,6 +59,6 @@ not_run_fails old new sql params e none never (inr h) = (e, h)
 pub not_refused_fails : (answer : Result Outline Error) (old new : State) (sql : List ℕ)
     → ((c : Compiled) → understood old.now.schema sql ≡ Ok c → ⊥)
     → (IsRefused answer → ⊥) → IfOk answer (Outlines (understood old.now.schema sql))
-        → IfErr answer (λ e. (params : Row) → IsNotRun old new sql params e) → FailsAtTest old new
+    → IfErr answer (λ e. (params : Row) → IsNotRun old new sql params e) → FailsAtTest old new
 not_refused_fails (Ok s) old new sql none never shape err = absurd (no_outline (understood old.now.schema sql) s none shape)
 not_refused_fails (Err e) old new sql none never shape err = not_run_fails old new sql [] e none (λ fault is. never (fault, is)) (err [])

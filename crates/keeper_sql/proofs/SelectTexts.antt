@@ -26,7 +26,7 @@ all_rows tree columns = record {
 }
 
 pub meta_selected : (command_of (understood store_schema select_meta)
-      ≡ Select (record { lets = []; body = all_rows 0 (col 1 0 ∷ col 1 2 ∷ []) }) (codes "id" ∷ codes "version" ∷ []))
+    ≡ Select (record { lets = []; body = all_rows 0 (col 1 0 ∷ col 1 2 ∷ []) }) (codes "id" ∷ codes "version" ∷ []))
     × (reads_listing store_schema select_meta ≡ false)
 unfolding understood everything
 meta_selected = (refl, refl)
@@ -37,7 +37,7 @@ meta_select_plain = (refl, refl)
 
 pub docs_selected :
     (command_of (understood store_schema select_docs) ≡ Select (record { lets = []; body = all_rows 1 (col 1 0 ∷ col 1 2 ∷ col 1 3 ∷ []) })
-      (codes "num" ∷ codes "arrival" ∷ codes "body" ∷ [])) × (reads_listing store_schema select_docs ≡ false)
+    (codes "num" ∷ codes "arrival" ∷ codes "body" ∷ [])) × (reads_listing store_schema select_docs ≡ false)
 unfolding understood everything
 docs_selected = (refl, refl)
 
@@ -46,8 +46,8 @@ unfolding understood everything
 docs_select_plain = (refl, refl)
 
 pub notes_selected : (command_of (understood store_schema select_notes)
-      ≡ Select (record { lets = []; body = all_rows 2 (col 1 0 ∷ col 1 2 ∷ col 1 3 ∷ col 1 4 ∷ col 1 5 ∷ col 1 6 ∷ col 1 7 ∷ []) })
-      (codes "num" ∷ codes "doc" ∷ codes "author" ∷ codes "kind" ∷ codes "value" ∷ codes "arrival" ∷ codes "body" ∷ []))
+    ≡ Select (record { lets = []; body = all_rows 2 (col 1 0 ∷ col 1 2 ∷ col 1 3 ∷ col 1 4 ∷ col 1 5 ∷ col 1 6 ∷ col 1 7 ∷ []) })
+    (codes "num" ∷ codes "doc" ∷ codes "author" ∷ codes "kind" ∷ codes "value" ∷ codes "arrival" ∷ codes "body" ∷ []))
     × (reads_listing store_schema select_notes ≡ false)
 unfolding understood everything
 notes_selected = (refl, refl)
@@ -57,8 +57,8 @@ unfolding understood everything
 notes_select_plain = (refl, refl)
 
 pub queries_selected : (command_of (understood store_schema select_queries)
-      ≡ Select (record { lets = []; body = all_rows 3 (col 1 0 ∷ col 1 2 ∷ col 1 3 ∷ col 1 4 ∷ col 1 5 ∷ []) })
-      (codes "num" ∷ codes "owner" ∷ codes "name" ∷ codes "source" ∷ codes "arrival" ∷ []))
+    ≡ Select (record { lets = []; body = all_rows 3 (col 1 0 ∷ col 1 2 ∷ col 1 3 ∷ col 1 4 ∷ col 1 5 ∷ []) })
+    (codes "num" ∷ codes "owner" ∷ codes "name" ∷ codes "source" ∷ codes "arrival" ∷ []))
     × (reads_listing store_schema select_queries ≡ false)
 unfolding understood everything
 queries_selected = (refl, refl)
@@ -69,7 +69,7 @@ queries_select_plain = (refl, refl)
 
 pub runs_selected :
     (command_of (understood store_schema select_runs) ≡ Select (record { lets = []; body = all_rows 4 (col 1 0 ∷ col 1 2 ∷ col 1 3 ∷ []) })
-      (codes "num" ∷ codes "query" ∷ codes "moment" ∷ [])) × (reads_listing store_schema select_runs ≡ false)
+    (codes "num" ∷ codes "query" ∷ codes "moment" ∷ [])) × (reads_listing store_schema select_runs ≡ false)
 unfolding understood everything
 runs_selected = (refl, refl)
 
@@ -78,8 +78,8 @@ unfolding understood everything
 runs_select_plain = (refl, refl)
 
 pub picks_selected : (command_of (understood store_schema select_picks)
-      ≡ Select (record { lets = []; body = all_rows 5 (col 1 0 ∷ col 1 2 ∷ col 1 3 ∷ col 1 4 ∷ col 1 5 ∷ []) })
-      (codes "num" ∷ codes "query" ∷ codes "run" ∷ codes "doc" ∷ codes "second" ∷ [])) × (reads_listing store_schema select_picks ≡ false)
+    ≡ Select (record { lets = []; body = all_rows 5 (col 1 0 ∷ col 1 2 ∷ col 1 3 ∷ col 1 4 ∷ col 1 5 ∷ []) })
+    (codes "num" ∷ codes "query" ∷ codes "run" ∷ codes "doc" ∷ codes "second" ∷ [])) × (reads_listing store_schema select_picks ≡ false)
 unfolding understood everything
 picks_selected = (refl, refl)
 
@@ -88,8 +88,8 @@ unfolding understood everything
 picks_select_plain = (refl, refl)
 
 pub filters_selected : (command_of (understood store_schema select_filters)
-      ≡ Select (record { lets = []; body = all_rows 6 (col 1 0 ∷ col 1 2 ∷ col 1 3 ∷ col 1 4 ∷ []) })
-      (codes "num" ∷ codes "owner" ∷ codes "source" ∷ codes "arrival" ∷ [])) × (reads_listing store_schema select_filters ≡ false)
+    ≡ Select (record { lets = []; body = all_rows 6 (col 1 0 ∷ col 1 2 ∷ col 1 3 ∷ col 1 4 ∷ []) })
+    (codes "num" ∷ codes "owner" ∷ codes "source" ∷ codes "arrival" ∷ [])) × (reads_listing store_schema select_filters ≡ false)
 unfolding understood everything
 filters_selected = (refl, refl)
 

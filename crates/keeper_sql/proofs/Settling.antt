@@ -30,8 +30,18 @@ settle_same v old new inside has meta same read =
       is_open = λ _. same.0.is_open;
       mode = same.0.mode ∙ inside;
       committed = same.0.committed_is;
-      writes = record { sound = λ was. subst IsDatabase (sym now) was; schema = ap (λ (d : Database). d.schema) now ∙ has; meta = at 0
-            ∙ row; docs = at 1; notes = at 2; queries = at 3; runs = at 4; picks = at 5; filters = at 6 };
+      writes = record {
+        sound = λ was. subst IsDatabase (sym now) was;
+        schema = ap (λ (d : Database). d.schema) now ∙ has;
+        meta = at 0
+            ∙ row;
+        docs = at 1;
+        notes = at 2;
+        queries = at 3;
+        runs = at 4;
+        picks = at 5;
+        filters = at 6;
+      };
       was = λ w is. let e : Some v ≡ Some w = read ∙ ap version_in is in let same' : w ≡ v = cc in inl same';
       fresh = λ none. absurd (let e : ◌≡◌ {A = Option ℤ} (Some v) None = read ∙ ap version_in none in cc);
     }
@@ -48,9 +58,17 @@ settle_raised version old mid new has meta same read one raised =
       is_open = λ _. raised.is_open same.0.is_open;
       mode = raised.mode;
       committed = raised.committed ∙ same.0.committed_is;
-      writes = record { sound = λ was. wrote.sound (subst IsDatabase (sym now) was); schema = wrote.schema; meta = wrote.meta;
-            docs = wrote.docs ∙ at 1; notes = wrote.notes ∙ at 2; queries = wrote.queries ∙ at 3; runs = wrote.runs ∙ at 4;
-            picks = wrote.picks ∙ at 5; filters = wrote.filters ∙ at 6 };
+      writes = record {
+        sound = λ was. wrote.sound (subst IsDatabase (sym now) was);
+        schema = wrote.schema;
+        meta = wrote.meta;
+        docs = wrote.docs ∙ at 1;
+        notes = wrote.notes ∙ at 2;
+        queries = wrote.queries ∙ at 3;
+        runs = wrote.runs ∙ at 4;
+        picks = wrote.picks ∙ at 5;
+        filters = wrote.filters ∙ at 6;
+      };
       was = λ w is. inr (one w (read ∙ ap version_in is), refl);
       fresh = λ none. refl;
     }
@@ -60,7 +78,7 @@ pub read_at : (v : ℤ) (old new : State) → IsUnchanged old new
     → (old.now.schema ≡ store_schema → AreKeyed (old.now.trees 0) → Some v ≡ version_in (old.now.trees 0)) → IsAtVersion new.now v
 read_at v old new same read =
     subst (λ (d : Database). IsAtVersion d v) (sym same.0.now_is) (λ has meta.
-        row_of (old.now.trees 0) v meta (read has (meta_keyed (old.now.trees 0) meta)))
+    row_of (old.now.trees 0) v meta (read has (meta_keyed (old.now.trees 0) meta)))
 
 pub undone_after : (old mid new : State) → IsUnchanged old mid → Undone mid new → Undone old new
 undone_after old mid new same h = record { was_open = λ _. same.0.was_open; committed = λ now. h.committed now ∙ same.0.committed_is }

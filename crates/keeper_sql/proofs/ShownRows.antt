@@ -38,10 +38,10 @@ meta_shown old new rows has keyed h =
     let db = overlay old.now.trees [] in
     let source = last_table db 0 as_row (λ (x : Cells). x.0) xs keyed.1 keyed.2 (at_end db) in
     let found = answer_by_keys (all_rows 0 (col 1 0 ∷ col 1 2 ∷ [])) db [] source (λ _. true) (λ a. refl) (λ (r : Row). r)
-        (λ x. show_version (as_row x)) (λ a. refl) refl refl
-        (λ (a b : Cells). ap (λ o. ordering_then o Equal) (value_cmp-Int a.0 b.0) ∙ then_equal (int_cmp a.0 b.0)) rows (got.answer Null) in
+    (λ x. show_version (as_row x)) (λ a. refl) refl refl
+    (λ (a b : Cells). ap (λ o. ordering_then o Equal) (value_cmp-Int a.0 b.0) ∙ then_equal (int_cmp a.0 b.0)) rows (got.answer Null) in
     sym (map-id rows) ∙ found ∙ ap (map (λ x. show_version (as_row x))) (filter_true xs) ∙ sym (map_twice show_version as_row xs)
-      ∙ ap (map show_version) (sym keyed.1)
+    ∙ ap (map show_version) (sym keyed.1)
 
 pub docs_shown : (old new : State) (rows : List Row) → old.now.schema ≡ store_schema → AreKeyed (old.now.trees 1)
     → Shown select_docs [] old new rows → rows ≡ map show_doc (old.now.trees 1)
@@ -51,10 +51,10 @@ docs_shown old new rows has keyed h =
     let db = overlay old.now.trees [] in
     let source = last_table db 1 as_row (λ (x : Cells). x.0) xs keyed.1 keyed.2 (at_end db) in
     let found = answer_by_keys (all_rows 1 (col 1 0 ∷ col 1 2 ∷ col 1 3 ∷ [])) db [] source (λ _. true) (λ a. refl) (λ (r : Row). r)
-        (λ x. show_doc (as_row x)) (λ a. refl) refl refl
-        (λ (a b : Cells). ap (λ o. ordering_then o Equal) (value_cmp-Int a.0 b.0) ∙ then_equal (int_cmp a.0 b.0)) rows (got.answer Null) in
+    (λ x. show_doc (as_row x)) (λ a. refl) refl refl
+    (λ (a b : Cells). ap (λ o. ordering_then o Equal) (value_cmp-Int a.0 b.0) ∙ then_equal (int_cmp a.0 b.0)) rows (got.answer Null) in
     sym (map-id rows) ∙ found ∙ ap (map (λ x. show_doc (as_row x))) (filter_true xs) ∙ sym (map_twice show_doc as_row xs)
-      ∙ ap (map show_doc) (sym keyed.1)
+    ∙ ap (map show_doc) (sym keyed.1)
 
 pub notes_shown : (old new : State) (rows : List Row) → old.now.schema ≡ store_schema → AreKeyed (old.now.trees 2)
     → Shown select_notes [] old new rows → rows ≡ map show_note (old.now.trees 2)
@@ -64,10 +64,10 @@ notes_shown old new rows has keyed h =
     let db = overlay old.now.trees [] in
     let source = last_table db 2 as_row (λ (x : Cells). x.0) xs keyed.1 keyed.2 (at_end db) in
     let found = answer_by_keys (all_rows 2 (col 1 0 ∷ col 1 2 ∷ col 1 3 ∷ col 1 4 ∷ col 1 5 ∷ col 1 6 ∷ col 1 7 ∷ [])) db [] source
-        (λ _. true) (λ a. refl) (λ (r : Row). r) (λ x. show_note (as_row x)) (λ a. refl) refl refl
-        (λ (a b : Cells). ap (λ o. ordering_then o Equal) (value_cmp-Int a.0 b.0) ∙ then_equal (int_cmp a.0 b.0)) rows (got.answer Null) in
+    (λ _. true) (λ a. refl) (λ (r : Row). r) (λ x. show_note (as_row x)) (λ a. refl) refl refl
+    (λ (a b : Cells). ap (λ o. ordering_then o Equal) (value_cmp-Int a.0 b.0) ∙ then_equal (int_cmp a.0 b.0)) rows (got.answer Null) in
     sym (map-id rows) ∙ found ∙ ap (map (λ x. show_note (as_row x))) (filter_true xs) ∙ sym (map_twice show_note as_row xs)
-      ∙ ap (map show_note) (sym keyed.1)
+    ∙ ap (map show_note) (sym keyed.1)
 
 pub queries_shown : (old new : State) (rows : List Row) → old.now.schema ≡ store_schema → AreKeyed (old.now.trees 3)
     → Shown select_queries [] old new rows → rows ≡ map show_query (old.now.trees 3)
@@ -77,10 +77,10 @@ queries_shown old new rows has keyed h =
     let db = overlay old.now.trees [] in
     let source = last_table db 3 as_row (λ (x : Cells). x.0) xs keyed.1 keyed.2 (at_end db) in
     let found = answer_by_keys (all_rows 3 (col 1 0 ∷ col 1 2 ∷ col 1 3 ∷ col 1 4 ∷ col 1 5 ∷ [])) db [] source (λ _. true) (λ a. refl)
-        (λ (r : Row). r) (λ x. show_query (as_row x)) (λ a. refl) refl refl
-        (λ (a b : Cells). ap (λ o. ordering_then o Equal) (value_cmp-Int a.0 b.0) ∙ then_equal (int_cmp a.0 b.0)) rows (got.answer Null) in
+    (λ (r : Row). r) (λ x. show_query (as_row x)) (λ a. refl) refl refl
+    (λ (a b : Cells). ap (λ o. ordering_then o Equal) (value_cmp-Int a.0 b.0) ∙ then_equal (int_cmp a.0 b.0)) rows (got.answer Null) in
     sym (map-id rows) ∙ found ∙ ap (map (λ x. show_query (as_row x))) (filter_true xs) ∙ sym (map_twice show_query as_row xs)
-      ∙ ap (map show_query) (sym keyed.1)
+    ∙ ap (map show_query) (sym keyed.1)
 
 pub runs_shown : (old new : State) (rows : List Row) → old.now.schema ≡ store_schema → AreKeyed (old.now.trees 4)
     → Shown select_runs [] old new rows → rows ≡ map show_run (old.now.trees 4)
@@ -90,10 +90,10 @@ runs_shown old new rows has keyed h =
     let db = overlay old.now.trees [] in
     let source = last_table db 4 as_row (λ (x : Cells). x.0) xs keyed.1 keyed.2 (at_end db) in
     let found = answer_by_keys (all_rows 4 (col 1 0 ∷ col 1 2 ∷ col 1 3 ∷ [])) db [] source (λ _. true) (λ a. refl) (λ (r : Row). r)
-        (λ x. show_run (as_row x)) (λ a. refl) refl refl
-        (λ (a b : Cells). ap (λ o. ordering_then o Equal) (value_cmp-Int a.0 b.0) ∙ then_equal (int_cmp a.0 b.0)) rows (got.answer Null) in
+    (λ x. show_run (as_row x)) (λ a. refl) refl refl
+    (λ (a b : Cells). ap (λ o. ordering_then o Equal) (value_cmp-Int a.0 b.0) ∙ then_equal (int_cmp a.0 b.0)) rows (got.answer Null) in
     sym (map-id rows) ∙ found ∙ ap (map (λ x. show_run (as_row x))) (filter_true xs) ∙ sym (map_twice show_run as_row xs)
-      ∙ ap (map show_run) (sym keyed.1)
+    ∙ ap (map show_run) (sym keyed.1)
 
 pub picks_shown : (old new : State) (rows : List Row) → old.now.schema ≡ store_schema → AreKeyed (old.now.trees 5)
     → Shown select_picks [] old new rows → rows ≡ map show_pick (old.now.trees 5)
@@ -103,10 +103,10 @@ picks_shown old new rows has keyed h =
     let db = overlay old.now.trees [] in
     let source = last_table db 5 as_row (λ (x : Cells). x.0) xs keyed.1 keyed.2 (at_end db) in
     let found = answer_by_keys (all_rows 5 (col 1 0 ∷ col 1 2 ∷ col 1 3 ∷ col 1 4 ∷ col 1 5 ∷ [])) db [] source (λ _. true) (λ a. refl)
-        (λ (r : Row). r) (λ x. show_pick (as_row x)) (λ a. refl) refl refl
-        (λ (a b : Cells). ap (λ o. ordering_then o Equal) (value_cmp-Int a.0 b.0) ∙ then_equal (int_cmp a.0 b.0)) rows (got.answer Null) in
+    (λ (r : Row). r) (λ x. show_pick (as_row x)) (λ a. refl) refl refl
+    (λ (a b : Cells). ap (λ o. ordering_then o Equal) (value_cmp-Int a.0 b.0) ∙ then_equal (int_cmp a.0 b.0)) rows (got.answer Null) in
     sym (map-id rows) ∙ found ∙ ap (map (λ x. show_pick (as_row x))) (filter_true xs) ∙ sym (map_twice show_pick as_row xs)
-      ∙ ap (map show_pick) (sym keyed.1)
+    ∙ ap (map show_pick) (sym keyed.1)
 
 pub filters_shown : (old new : State) (rows : List Row) → old.now.schema ≡ store_schema → AreKeyed (old.now.trees 6)
     → Shown select_filters [] old new rows → rows ≡ map show_filter (old.now.trees 6)
@@ -116,7 +116,7 @@ filters_shown old new rows has keyed h =
     let db = overlay old.now.trees [] in
     let source = last_table db 6 as_row (λ (x : Cells). x.0) xs keyed.1 keyed.2 (at_end db) in
     let found = answer_by_keys (all_rows 6 (col 1 0 ∷ col 1 2 ∷ col 1 3 ∷ col 1 4 ∷ [])) db [] source (λ _. true) (λ a. refl)
-        (λ (r : Row). r) (λ x. show_filter (as_row x)) (λ a. refl) refl refl
-        (λ (a b : Cells). ap (λ o. ordering_then o Equal) (value_cmp-Int a.0 b.0) ∙ then_equal (int_cmp a.0 b.0)) rows (got.answer Null) in
+    (λ (r : Row). r) (λ x. show_filter (as_row x)) (λ a. refl) refl refl
+    (λ (a b : Cells). ap (λ o. ordering_then o Equal) (value_cmp-Int a.0 b.0) ∙ then_equal (int_cmp a.0 b.0)) rows (got.answer Null) in
     sym (map-id rows) ∙ found ∙ ap (map (λ x. show_filter (as_row x))) (filter_true xs) ∙ sym (map_twice show_filter as_row xs)
-      ∙ ap (map show_filter) (sym keyed.1)
+    ∙ ap (map show_filter) (sym keyed.1)

@@ -12,8 +12,13 @@ pub went_by : (rows : ℕ → List Row) (old new : State) (sql : List ℕ) (para
     → ExecutesInside 0 sql params old new (Ok count)
     → (old.now.schema ≡ store_schema → Executes sql params old new (Ok count) → Puts rows old.now new.now) → RowsWritten rows old new
 went_by rows old new sql params count h puts =
-    record { was_open = λ _. h.1.was_open; is_open = λ _. h.1.is_open; mode = h.1.mode; committed = h.1.committed_is;
-        puts = λ has. puts has h.0 }
+    record {
+      was_open = λ _. h.1.was_open;
+      is_open = λ _. h.1.is_open;
+      mode = h.1.mode;
+      committed = h.1.committed_is;
+      puts = λ has. puts has h.0;
+    }
 
 pub put_all_both : (xs ys tree : List Row) → put_all (xs ++ ys) tree ≡ put_all ys (put_all xs tree)
 put_all_both [] ys tree = refl
@@ -68,8 +73,17 @@ only_none k t = none (t == k)
 pub puts_none : (rows : ℕ → List Row) (db : Database) → ((t : ℕ) → rows t ≡ []) → db.schema ≡ store_schema → Puts rows db db
 puts_none rows db none has =
     let same : (t : ℕ) → db.trees t ≡ put_all (rows t) (db.trees t) = λ t. ap (λ rows. put_all rows (db.trees t)) (sym (none t)) in
-    record { sound = λ was. was; schema = has; meta = same 0; docs = same 1; notes = same 2; queries = same 3; runs = same 4;
-        picks = same 5; filters = same 6 }
+    record {
+      sound = λ was. was;
+      schema = has;
+      meta = same 0;
+      docs = same 1;
+      notes = same 2;
+      queries = same 3;
+      runs = same 4;
+      picks = same 5;
+      filters = same 6;
+    }
 
 pub went_none : (rows : ℕ → List Row) (s : State) → ((t : ℕ) → rows t ≡ []) → s.in_transaction ≡ true → RowsWritten rows s s
 went_none rows s none inside =

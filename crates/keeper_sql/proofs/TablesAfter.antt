@@ -73,7 +73,7 @@ docs_appended old new xs holds formed next back put =
     let numbered : NumberedBy key_number 1 tree = numbered_map doc_in number 1 tree (docs_in_order (tables_in old.trees) formed) in
     let next' : NumberedBy number (length tree + 1) xs = subst (λ len. NumberedBy number (len + 1) xs) (length-map tree doc_in) next in
     let all = append_rows write number (λ x. tail_of (write x)) (λ x. refl) tree xs holds.docs numbered next'
-        (back_numbers write doc_in number (λ r. refl) xs back) in
+    (back_numbers write doc_in number (λ r. refl) xs back) in
     (subst AreKeyed (sym (put ∙ all.0)) all.1, read_appended doc_in tree (new.trees 1) (map write xs) xs (put ∙ all.0) back)
 
 notes_appended : (old new : Database) (xs : List Note) → HoldsStore old → is_well_formed (tables_in old.trees) ≡ true
@@ -87,13 +87,13 @@ notes_appended old new xs holds formed next back put =
     let numbered : NumberedBy key_number 1 tree = numbered_map note_in number 1 tree (notes_in_order (tables_in old.trees) formed) in
     let next' : NumberedBy number (length tree + 1) xs = subst (λ len. NumberedBy number (len + 1) xs) (length-map tree note_in) next in
     let all = append_rows write number (λ x. tail_of (write x)) (λ x. refl) tree xs holds.notes numbered next'
-        (back_numbers write note_in number (λ r. refl) xs back) in
+    (back_numbers write note_in number (λ r. refl) xs back) in
     (subst AreKeyed (sym (put ∙ all.0)) all.1, read_appended note_in tree (new.trees 2) (map write xs) xs (put ∙ all.0) back)
 
 queries_appended : (old new : Database) (xs : List QueryRow) → HoldsStore old → is_well_formed (tables_in old.trees) ≡ true
     → NumberedBy (λ (q : QueryRow). q.num.0) (length (map query_in (old.trees 3)) + 1) xs
     → map query_in (map (λ x. as_kept (given_query x)) xs) ≡ xs
-        → new.trees 3 ≡ put_all (map (λ x. as_kept (given_query x)) xs) (old.trees 3)
+    → new.trees 3 ≡ put_all (map (λ x. as_kept (given_query x)) xs) (old.trees 3)
     → AreKeyed (new.trees 3) × (map query_in (new.trees 3) ≡ map query_in (old.trees 3) ++ xs)
 queries_appended old new xs holds formed next back put =
     let write : QueryRow → Row = λ x. as_kept (given_query x) in
@@ -102,7 +102,7 @@ queries_appended old new xs holds formed next back put =
     let numbered : NumberedBy key_number 1 tree = numbered_map query_in number 1 tree (queries_in_order (tables_in old.trees) formed) in
     let next' : NumberedBy number (length tree + 1) xs = subst (λ len. NumberedBy number (len + 1) xs) (length-map tree query_in) next in
     let all = append_rows write number (λ x. tail_of (write x)) (λ x. refl) tree xs holds.queries numbered next'
-        (back_numbers write query_in number (λ r. refl) xs back) in
+    (back_numbers write query_in number (λ r. refl) xs back) in
     (subst AreKeyed (sym (put ∙ all.0)) all.1, read_appended query_in tree (new.trees 3) (map write xs) xs (put ∙ all.0) back)
 
 runs_appended : (old new : Database) (xs : List RunRow) → HoldsStore old → is_well_formed (tables_in old.trees) ≡ true
@@ -116,7 +116,7 @@ runs_appended old new xs holds formed next back put =
     let numbered : NumberedBy key_number 1 tree = numbered_map run_in number 1 tree (runs_in_order (tables_in old.trees) formed) in
     let next' : NumberedBy number (length tree + 1) xs = subst (λ len. NumberedBy number (len + 1) xs) (length-map tree run_in) next in
     let all = append_rows write number (λ x. tail_of (write x)) (λ x. refl) tree xs holds.runs numbered next'
-        (back_numbers write run_in number (λ r. refl) xs back) in
+    (back_numbers write run_in number (λ r. refl) xs back) in
     (subst AreKeyed (sym (put ∙ all.0)) all.1, read_appended run_in tree (new.trees 4) (map write xs) xs (put ∙ all.0) back)
 
 picks_appended : (old new : Database) (xs : List Pick) → HoldsStore old → is_well_formed (tables_in old.trees) ≡ true
@@ -130,13 +130,13 @@ picks_appended old new xs holds formed next back put =
     let numbered : NumberedBy key_number 1 tree = numbered_map pick_in number 1 tree (picks_in_order (tables_in old.trees) formed) in
     let next' : NumberedBy number (length tree + 1) xs = subst (λ len. NumberedBy number (len + 1) xs) (length-map tree pick_in) next in
     let all = append_rows write number (λ x. tail_of (write x)) (λ x. refl) tree xs holds.picks numbered next'
-        (back_numbers write pick_in number (λ r. refl) xs back) in
+    (back_numbers write pick_in number (λ r. refl) xs back) in
     (subst AreKeyed (sym (put ∙ all.0)) all.1, read_appended pick_in tree (new.trees 5) (map write xs) xs (put ∙ all.0) back)
 
 filters_appended : (old new : Database) (xs : List FilterRow) → HoldsStore old → is_well_formed (tables_in old.trees) ≡ true
     → NumberedBy (λ (f : FilterRow). f.num) (length (map filter_in (old.trees 6)) + 1) xs
     → map filter_in (map (λ x. as_kept (given_filter x)) xs) ≡ xs
-        → new.trees 6 ≡ put_all (map (λ x. as_kept (given_filter x)) xs) (old.trees 6)
+    → new.trees 6 ≡ put_all (map (λ x. as_kept (given_filter x)) xs) (old.trees 6)
     → AreKeyed (new.trees 6) × (map filter_in (new.trees 6) ≡ map filter_in (old.trees 6) ++ xs)
 filters_appended old new xs holds formed next back put =
     let write : FilterRow → Row = λ x. as_kept (given_filter x) in
@@ -145,55 +145,127 @@ filters_appended old new xs holds formed next back put =
     let numbered : NumberedBy key_number 1 tree = numbered_map filter_in number 1 tree (filters_in_order (tables_in old.trees) formed) in
     let next' : NumberedBy number (length tree + 1) xs = subst (λ len. NumberedBy number (len + 1) xs) (length-map tree filter_in) next in
     let all = append_rows write number (λ x. tail_of (write x)) (λ x. refl) tree xs holds.filters numbered next'
-        (back_numbers write filter_in number (λ r. refl) xs back) in
+    (back_numbers write filter_in number (λ r. refl) xs back) in
     (subst AreKeyed (sym (put ∙ all.0)) all.1, read_appended filter_in tree (new.trees 6) (map write xs) xs (put ∙ all.0) back)
 
 pub rows_after : (change : Change) (old new : Database) → HoldsStore old → is_well_formed (tables_in old.trees) ≡ true
     → fits (tables_in old.trees) change ≡ true → IsReadBack change → Puts (added_rows change) old new
     → HoldsStore new × (tables_in new.trees ≡ after (tables_in old.trees) change)
 rows_after (Docs docs) old new holds formed fit back puts =
-    let docs = docs_appended old new docs holds formed (docs_numbered _ _ docs fit) back puts.docs in
-    (record { sound = puts.sound holds.sound; schema = puts.schema; meta = subst IsMeta (sym puts.meta) holds.meta; docs = docs.0;
-        notes = subst AreKeyed (sym puts.notes) holds.notes; queries = subst AreKeyed (sym puts.queries) holds.queries;
-        runs = subst AreKeyed (sym puts.runs) holds.runs; picks = subst AreKeyed (sym puts.picks) holds.picks;
-        filters = subst AreKeyed (sym puts.filters) holds.filters },
-      λ i. record { docs = docs.1 i; notes = map note_in (puts.notes i); queries = map query_in (puts.queries i);
-        runs = map run_in (puts.runs i); picks = map pick_in (puts.picks i); filters = map filter_in (puts.filters i) })
+    let docs = docs_appended old new docs holds formed (docs_numbered _ _ docs fit) back puts.docs in (
+      record {
+        sound = puts.sound holds.sound;
+        schema = puts.schema;
+        meta = subst IsMeta (sym puts.meta) holds.meta;
+        docs = docs.0;
+        notes = subst AreKeyed (sym puts.notes) holds.notes;
+        queries = subst AreKeyed (sym puts.queries) holds.queries;
+        runs = subst AreKeyed (sym puts.runs) holds.runs;
+        picks = subst AreKeyed (sym puts.picks) holds.picks;
+        filters = subst AreKeyed (sym puts.filters) holds.filters;
+      },
+      λ i. record {
+        docs = docs.1 i;
+        notes = map note_in (puts.notes i);
+        queries = map query_in (puts.queries i);
+        runs = map run_in (puts.runs i);
+        picks = map pick_in (puts.picks i);
+        filters = map filter_in (puts.filters i);
+      },
+    )
 rows_after (OneNote note) old new holds formed fit back puts =
-    let notes = notes_appended old new (note ∷ []) holds formed (note_numbered _ _ _ note fit, tt) (ap (λ x. x ∷ []) back) puts.notes in
-    (record { sound = puts.sound holds.sound; schema = puts.schema; meta = subst IsMeta (sym puts.meta) holds.meta;
-        docs = subst AreKeyed (sym puts.docs) holds.docs; notes = notes.0; queries = subst AreKeyed (sym puts.queries) holds.queries;
-        runs = subst AreKeyed (sym puts.runs) holds.runs; picks = subst AreKeyed (sym puts.picks) holds.picks;
-        filters = subst AreKeyed (sym puts.filters) holds.filters },
-      λ i. record { docs = map doc_in (puts.docs i); notes = notes.1 i; queries = map query_in (puts.queries i);
-        runs = map run_in (puts.runs i); picks = map pick_in (puts.picks i); filters = map filter_in (puts.filters i) })
+    let notes = notes_appended old new (note ∷ []) holds formed (note_numbered _ _ _ note fit, tt) (ap (λ x. x ∷ []) back) puts.notes in (
+      record {
+        sound = puts.sound holds.sound;
+        schema = puts.schema;
+        meta = subst IsMeta (sym puts.meta) holds.meta;
+        docs = subst AreKeyed (sym puts.docs) holds.docs;
+        notes = notes.0;
+        queries = subst AreKeyed (sym puts.queries) holds.queries;
+        runs = subst AreKeyed (sym puts.runs) holds.runs;
+        picks = subst AreKeyed (sym puts.picks) holds.picks;
+        filters = subst AreKeyed (sym puts.filters) holds.filters;
+      },
+      λ i. record {
+        docs = map doc_in (puts.docs i);
+        notes = notes.1 i;
+        queries = map query_in (puts.queries i);
+        runs = map run_in (puts.runs i);
+        picks = map pick_in (puts.picks i);
+        filters = map filter_in (puts.filters i);
+      },
+    )
 rows_after (OneQuery query) old new holds formed fit back puts =
     let queries =
-        queries_appended old new (query ∷ []) holds formed (query_numbered _ _ _ query fit, tt) (ap (λ x. x ∷ []) back) puts.queries in
-    (record { sound = puts.sound holds.sound; schema = puts.schema; meta = subst IsMeta (sym puts.meta) holds.meta;
-        docs = subst AreKeyed (sym puts.docs) holds.docs; notes = subst AreKeyed (sym puts.notes) holds.notes; queries = queries.0;
-        runs = subst AreKeyed (sym puts.runs) holds.runs; picks = subst AreKeyed (sym puts.picks) holds.picks;
-        filters = subst AreKeyed (sym puts.filters) holds.filters },
-      λ i. record { docs = map doc_in (puts.docs i); notes = map note_in (puts.notes i); queries = queries.1 i;
-        runs = map run_in (puts.runs i); picks = map pick_in (puts.picks i); filters = map filter_in (puts.filters i) })
+    queries_appended old new (query ∷ []) holds formed (query_numbered _ _ _ query fit, tt) (ap (λ x. x ∷ []) back) puts.queries in (
+      record {
+        sound = puts.sound holds.sound;
+        schema = puts.schema;
+        meta = subst IsMeta (sym puts.meta) holds.meta;
+        docs = subst AreKeyed (sym puts.docs) holds.docs;
+        notes = subst AreKeyed (sym puts.notes) holds.notes;
+        queries = queries.0;
+        runs = subst AreKeyed (sym puts.runs) holds.runs;
+        picks = subst AreKeyed (sym puts.picks) holds.picks;
+        filters = subst AreKeyed (sym puts.filters) holds.filters;
+      },
+      λ i. record {
+        docs = map doc_in (puts.docs i);
+        notes = map note_in (puts.notes i);
+        queries = queries.1 i;
+        runs = map run_in (puts.runs i);
+        picks = map pick_in (puts.picks i);
+        filters = map filter_in (puts.filters i);
+      },
+    )
 rows_after (RunDone run picked) old new holds formed fit back puts =
     let runs =
-        runs_appended old new (run ∷ []) holds formed (run_numbered _ _ _ run (two _ _ fit).0, tt) (ap (λ x. x ∷ []) back.0) puts.runs in
-    let picks = picks_appended old new picked holds formed (picks_numbered _ _ _ _ _ picked (two _ _ fit).1) back.1 puts.picks in
-    (record { sound = puts.sound holds.sound; schema = puts.schema; meta = subst IsMeta (sym puts.meta) holds.meta;
-        docs = subst AreKeyed (sym puts.docs) holds.docs; notes = subst AreKeyed (sym puts.notes) holds.notes; queries = subst AreKeyed
-        (sym puts.queries) holds.queries; runs = runs.0; picks = picks.0; filters = subst AreKeyed (sym puts.filters) holds.filters },
-      λ i. record { docs = map doc_in (puts.docs i); notes = map note_in (puts.notes i); queries = map query_in (puts.queries i);
-        runs = runs.1 i; picks = picks.1 i; filters = map filter_in (puts.filters i) })
+    runs_appended old new (run ∷ []) holds formed (run_numbered _ _ _ run (two _ _ fit).0, tt) (ap (λ x. x ∷ []) back.0) puts.runs in
+    let picks = picks_appended old new picked holds formed (picks_numbered _ _ _ _ _ picked (two _ _ fit).1) back.1 puts.picks in (
+      record {
+        sound = puts.sound holds.sound;
+        schema = puts.schema;
+        meta = subst IsMeta (sym puts.meta) holds.meta;
+        docs = subst AreKeyed (sym puts.docs) holds.docs;
+        notes = subst AreKeyed (sym puts.notes) holds.notes;
+        queries = subst AreKeyed
+            (sym puts.queries) holds.queries;
+        runs = runs.0;
+        picks = picks.0;
+        filters = subst AreKeyed (sym puts.filters) holds.filters;
+      },
+      λ i. record {
+        docs = map doc_in (puts.docs i);
+        notes = map note_in (puts.notes i);
+        queries = map query_in (puts.queries i);
+        runs = runs.1 i;
+        picks = picks.1 i;
+        filters = map filter_in (puts.filters i);
+      },
+    )
 rows_after (OneFilter filter) old new holds formed fit back puts =
     let filters =
-        filters_appended old new (filter ∷ []) holds formed (filter_numbered _ _ filter fit, tt) (ap (λ x. x ∷ []) back) puts.filters in
-    (record { sound = puts.sound holds.sound; schema = puts.schema; meta = subst IsMeta (sym puts.meta) holds.meta;
-        docs = subst AreKeyed (sym puts.docs) holds.docs; notes = subst AreKeyed (sym puts.notes) holds.notes;
-        queries = subst AreKeyed (sym puts.queries) holds.queries; runs = subst AreKeyed (sym puts.runs) holds.runs;
-        picks = subst AreKeyed (sym puts.picks) holds.picks; filters = filters.0 },
-      λ i. record { docs = map doc_in (puts.docs i); notes = map note_in (puts.notes i); queries = map query_in (puts.queries i);
-        runs = map run_in (puts.runs i); picks = map pick_in (puts.picks i); filters = filters.1 i })
+    filters_appended old new (filter ∷ []) holds formed (filter_numbered _ _ filter fit, tt) (ap (λ x. x ∷ []) back) puts.filters in (
+      record {
+        sound = puts.sound holds.sound;
+        schema = puts.schema;
+        meta = subst IsMeta (sym puts.meta) holds.meta;
+        docs = subst AreKeyed (sym puts.docs) holds.docs;
+        notes = subst AreKeyed (sym puts.notes) holds.notes;
+        queries = subst AreKeyed (sym puts.queries) holds.queries;
+        runs = subst AreKeyed (sym puts.runs) holds.runs;
+        picks = subst AreKeyed (sym puts.picks) holds.picks;
+        filters = filters.0;
+      },
+      λ i. record {
+        docs = map doc_in (puts.docs i);
+        notes = map note_in (puts.notes i);
+        queries = map query_in (puts.queries i);
+        runs = map run_in (puts.runs i);
+        picks = map pick_in (puts.picks i);
+        filters = filters.1 i;
+      },
+    )
 
 -- the tables of a store after the rows of a change were put
 pub tables_after : (change : Change) (s : Tables) (old new : Database) → HoldsStore old → s ≡ tables_of old.trees → is_well_formed s ≡ true
@@ -202,5 +274,5 @@ pub tables_after : (change : Change) (s : Tables) (old new : Database) → Holds
 tables_after change s old new holds is formed fit back puts =
     let same : s ≡ tables_in old.trees = is ∙ listed old holds in
     let all = rows_after change old new holds (subst (λ t. is_well_formed t ≡ true) same formed)
-        (subst (λ t. fits t change ≡ true) same fit) back puts in
+    (subst (λ t. fits t change ≡ true) same fit) back puts in
     (all.0, listed new all.0 ∙ all.1 ∙ ap (λ t. after t change) (sym same))

@@ -90,7 +90,7 @@ FailsToTakeRows kinds rows e = IsShortage e ⊎ ((row : Row) × IsOneOf rows row
 abbrev pub FailsToRead : List ℕ → List SqlType → State → State → Error → Type 0
 FailsToRead sql kinds old new e =
     (FailsToQuery sql [] old new e ⊎ IsTooLate sql [] old new e)
-      ⊎ ((rows : List Row) × Shown sql [] old new rows × FailsToTakeRows kinds rows e)
+    ⊎ ((rows : List Row) × Shown sql [] old new rows × FailsToTakeRows kinds rows e)
 
 -- the version was not read, or not raised
 abbrev pub FailsToSettle : State → State → Error → Type 0
@@ -100,7 +100,7 @@ FailsToSettle old new e = FailsToRead select_meta version_kinds old new e ⊎ Fa
 abbrev pub table_reads : List (List ℕ × List SqlType)
 table_reads =
     (select_docs, doc_kinds) ∷ (select_notes, note_kinds) ∷ (select_queries, query_kinds) ∷ (select_runs, run_kinds)
-      ∷ (select_picks, pick_kinds)
+    ∷ (select_picks, pick_kinds)
     ∷ (select_filters, filter_kinds) ∷ []
 
 -- one of the tables was not read
@@ -152,7 +152,7 @@ module _ {S : Type 0} (g : Ghosts S) (old new : Held S) where
   abbrev pub FailsInside : (State → State → Error → Type 0) → Error → Type 0
   FailsInside How e =
       (end : Held S) × FailsLater g (begun old) end How e × IsRolledBack (state g end) (state g new)
-        × Survives (state g end) (state g new) (λ _. ⊥)
+      × Survives (state g end) (state g new) (λ _. ⊥)
 
   -- its commit failed
   abbrev pub FailsAtCommit : Error → Type 0

@@ -119,8 +119,12 @@ pick_in r = record {
 
 -- a filter as it is read, by the same rules as a document
 abbrev pub filter_in : Row → FilterRow
-filter_in r = record { num = number_in_value (column r 0); owner = bytes_of (column r 2); source = bytes_of (column r 3);
-      arrival = integer_of (column r 4) }
+filter_in r = record {
+  num = number_in_value (column r 0);
+  owner = bytes_of (column r 2);
+  source = bytes_of (column r 3);
+  arrival = integer_of (column r 4);
+}
 
 -- the version in the row of `meta`, if there is one
 abbrev pub version_in : List Row → Option ℤ
@@ -216,8 +220,12 @@ pick_shown r = record {
 }
 
 abbrev pub filter_shown : Row → FilterRow
-filter_shown r = record { num = number_in_value (column r 0); owner = bytes_of (column r 1); source = bytes_of (column r 2);
-      arrival = integer_of (column r 3) }
+filter_shown r = record {
+  num = number_in_value (column r 0);
+  owner = bytes_of (column r 1);
+  source = bytes_of (column r 2);
+  arrival = integer_of (column r 3);
+}
 
 -- the tables that the trees of the store's schema hold
 abbrev pub tables_in : Trees → Tables

@@ -58,7 +58,7 @@ abbrev pub queries_at : ℕ → Table
 queries_at tree =
     a_table (codes "queries") tree
     (num_column ∷ blob_column (codes "owner") ∷ blob_column (codes "name") ∷ blob_column (codes "source") ∷ int_column (codes "arrival")
-        ∷ []) []
+    ∷ []) []
 
 abbrev pub runs_at : ℕ → Table
 runs_at tree = a_table (codes "runs") tree (num_column ∷ int_column (codes "query") ∷ int_column (codes "moment") ∷ []) []
@@ -96,12 +96,12 @@ create_docs = codes "CREATE TABLE IF NOT EXISTS docs (num INTEGER PRIMARY KEY, a
 abbrev pub create_notes : List ℕ
 create_notes =
     codes
-      "CREATE TABLE IF NOT EXISTS notes (num INTEGER PRIMARY KEY, doc INTEGER NOT NULL, author BLOB NOT NULL, kind BLOB NOT NULL, value INTEGER NOT NULL, arrival INTEGER NOT NULL, body BLOB NOT NULL) STRICT"
+    "CREATE TABLE IF NOT EXISTS notes (num INTEGER PRIMARY KEY, doc INTEGER NOT NULL, author BLOB NOT NULL, kind BLOB NOT NULL, value INTEGER NOT NULL, arrival INTEGER NOT NULL, body BLOB NOT NULL) STRICT"
 
 abbrev pub create_queries : List ℕ
 create_queries =
     codes
-      "CREATE TABLE IF NOT EXISTS queries (num INTEGER PRIMARY KEY, owner BLOB NOT NULL, name BLOB NOT NULL, source BLOB NOT NULL, arrival INTEGER NOT NULL) STRICT"
+    "CREATE TABLE IF NOT EXISTS queries (num INTEGER PRIMARY KEY, owner BLOB NOT NULL, name BLOB NOT NULL, source BLOB NOT NULL, arrival INTEGER NOT NULL) STRICT"
 
 abbrev pub create_runs : List ℕ
 create_runs = codes "CREATE TABLE IF NOT EXISTS runs (num INTEGER PRIMARY KEY, query INTEGER NOT NULL, moment INTEGER NOT NULL) STRICT"
@@ -109,12 +109,12 @@ create_runs = codes "CREATE TABLE IF NOT EXISTS runs (num INTEGER PRIMARY KEY, q
 abbrev pub create_picks : List ℕ
 create_picks =
     codes
-      "CREATE TABLE IF NOT EXISTS picks (num INTEGER PRIMARY KEY, query INTEGER NOT NULL, run INTEGER NOT NULL, doc INTEGER NOT NULL, second INTEGER NOT NULL) STRICT"
+    "CREATE TABLE IF NOT EXISTS picks (num INTEGER PRIMARY KEY, query INTEGER NOT NULL, run INTEGER NOT NULL, doc INTEGER NOT NULL, second INTEGER NOT NULL) STRICT"
 
 abbrev pub create_filters : List ℕ
 create_filters =
     codes
-      "CREATE TABLE IF NOT EXISTS filters (num INTEGER PRIMARY KEY, owner BLOB NOT NULL, source BLOB NOT NULL, arrival INTEGER NOT NULL) STRICT"
+    "CREATE TABLE IF NOT EXISTS filters (num INTEGER PRIMARY KEY, owner BLOB NOT NULL, source BLOB NOT NULL, arrival INTEGER NOT NULL) STRICT"
 
 abbrev pub insert_doc : List ℕ
 insert_doc = codes "INSERT INTO docs (num, arrival, body) VALUES (?1, ?2, ?3)"

@@ -28,7 +28,7 @@ fn insert_run_done<S: Alter>(
     ensures same_reference { tx.new.conn.ghost_name ≡ tx.old.conn.ghost_name }
     ensures ok { Does S.Store tx.old.conn.now tx.new.conn.now result
         (RowsWritten (appended_rows (only 4 (as_kept (given_run run.now) ∷ []))
-              (only 5 (map (λ p. as_kept (given_pick p)) picks.now)))) }
+        (only 5 (map (λ p. as_kept (given_pick p)) picks.now)))) }
     ensures err { DoesOrUndoes S.Store tx.old.conn.now tx.new.conn.now result }
     ensures survives { CommitsNothing S.Store tx.old.conn.now tx.new.conn.now }
     ensures fails { FailsWithin S.Store tx.old.conn.now tx.new.conn.now result

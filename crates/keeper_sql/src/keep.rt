@@ -88,11 +88,11 @@ pub fn keep<S: Alter>(conn: &mut Connection<S>, change: &Change) -> Result<(), C
         → OnOk result (LeavesItsTrees (state S.Store conn.new)) }
     ensures memory { HasCleanDisk (state S.Store conn.new) → result ≡ Err CommitFault.Memory
         → IsTrue (state S.Store conn.new).is_open
-            × ((state S.Store conn.new).now ≡ (state S.Store conn.old).now)
+        × ((state S.Store conn.new).now ≡ (state S.Store conn.old).now)
         × LeavesItsTrees (state S.Store conn.new) }
     ensures crash { HasCleanDisk (state S.Store conn.new) → IsTrue (state S.Store conn.old).is_open
         → LeavesOldOr (IsAfter change.now (state S.Store conn.old)) (state S.Store conn.old)
-            (state S.Store conn.new) }
+        (state S.Store conn.new) }
     ensures fails { HasCleanDisk (state S.Store conn.new)
         → IfErr result (FailsToKeep S.Store conn.old conn.new change.now) }
 {

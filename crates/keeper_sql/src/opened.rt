@@ -123,10 +123,10 @@ pub fn open_kept<S: Alter>(alloc: Global, conn: &mut Connection<S>) -> Result<Ta
     ensures still { OverOurs S.Store conn.old conn.new
         (UnlessFailed result (ShowsTheSame (state S.Store conn.old) (state S.Store conn.new))) }
     ensures alien { OverOurs S.Store conn.old conn.new (IfAlien result (λ v. (db : Database)
-          × OpensTo v (state S.Store conn.old).now db)) }
+        × OpensTo v (state S.Store conn.old).now db)) }
     ensures crash { HasCleanDisk (state S.Store conn.new) → IsTrue (state S.Store conn.old).is_open
         → LeavesOldOr (IsAfterOpen (state S.Store conn.old)) (state S.Store conn.old)
-            (state S.Store conn.new) }
+        (state S.Store conn.new) }
     ensures fails { HasCleanDisk (state S.Store conn.new)
         → IfErr result (FailsToAttach S.Store conn.old conn.new) }
 {

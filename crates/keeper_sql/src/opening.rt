@@ -43,7 +43,7 @@ fn read_written<S: Alter>(
     ensures same { ReadsOnly S.Store tx.old.conn.now tx.new.conn.now result }
     ensures read { Reads S.Store tx.old.conn.now tx.new.conn.now result (λ db all. AreAllKeyed db
         → (all.docs ≡ map doc_in (db.trees 1)) × (all.notes ≡ map note_in (db.trees 2))
-            × (all.queries ≡ map query_in (db.trees 3))) }
+        × (all.queries ≡ map query_in (db.trees 3))) }
     ensures err { ReadsOrUndoes S.Store tx.old.conn.now tx.new.conn.now result }
     ensures survives { CommitsNothing S.Store tx.old.conn.now tx.new.conn.now }
     ensures fails { FailsWithin S.Store tx.old.conn.now tx.new.conn.now result FailsToReadTables }
@@ -72,7 +72,7 @@ fn read_derived<S: Alter>(alloc: Global, tx: &mut Transaction<'_, S>) -> Result<
     ensures same { ReadsOnly S.Store tx.old.conn.now tx.new.conn.now result }
     ensures read { Reads S.Store tx.old.conn.now tx.new.conn.now result (λ db all. AreAllKeyed db
         → (all.runs ≡ map run_in (db.trees 4)) × (all.picks ≡ map pick_in (db.trees 5))
-            × (all.filters ≡ map filter_in (db.trees 6))) }
+        × (all.filters ≡ map filter_in (db.trees 6))) }
     ensures err { ReadsOrUndoes S.Store tx.old.conn.now tx.new.conn.now result }
     ensures survives { CommitsNothing S.Store tx.old.conn.now tx.new.conn.now }
     ensures fails { FailsWithin S.Store tx.old.conn.now tx.new.conn.now result FailsToReadTables }

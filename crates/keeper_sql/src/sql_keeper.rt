@@ -29,8 +29,7 @@ pub struct SqlKeeper<S: Alter> {
     stopped: bool,
     faults: u64,
     ghost idle: { connection.in_transaction ≡ false },
-    ghost settled: { IsSettled (state S.Store connection) }
-        by { IsSettled-prop (state S.Store connection) },
+    ghost settled: { IsSettled (state S.Store connection) } by { IsSettled-prop (state S.Store connection) },
 }
 
 impl<S: Alter> SqlKeeper<S> {
@@ -96,7 +95,7 @@ impl<S: Alter> Keeper for SqlKeeper<S> {
         ensures stopped { (self.new.stopped ≡ true) ↔ (result ≡ Err AttachFault.Failed) }
         ensures placed { (unwrap_or self.new.path [] ≡ at.now)
             ⊎ ((result ≡ Err AttachFault.Memory)
-                  × (unwrap_or self.new.path [] ≡ unwrap_or self.old.path [])) }
+            × (unwrap_or self.new.path [] ≡ unwrap_or self.old.path [])) }
         ensures stays { result ≡ Err AttachFault.Memory
             → unwrap_or self.new.path [] ≡ unwrap_or self.old.path [] }
         ensures later { self.old.faults ≤ self.new.faults }
@@ -109,9 +108,9 @@ impl<S: Alter> Keeper for SqlKeeper<S> {
             → TellsAs self.old.attached (state S.Store self.old.connection) s → s ≡ given) }
         ensures kept { HasCleanDisk (state S.Store self.new.connection) → (s : TableRows)
             → TellsAs self.old.attached (state S.Store self.old.connection) s
-                → self.new.stopped ≡ false
+            → self.new.stopped ≡ false
             → IsDurable (TellsAs self.new.attached (state S.Store self.new.connection))
-                (MayLeave (state S.Store self.new.connection)) s }
+            (MayLeave (state S.Store self.new.connection)) s }
         ensures crash { HasCleanDisk (state S.Store self.new.connection) → (s : TableRows)
             → TellsAs self.old.attached (state S.Store self.old.connection) s → (x : TableRows)
             → MayLeave (state S.Store self.new.connection) x → x ≡ s }
@@ -121,19 +120,19 @@ impl<S: Alter> Keeper for SqlKeeper<S> {
         ensures version { OnOk result
             (HasCleanDisk (state S.Store self.new.connection) → (t : TableRows)
             → TellsAs self.new.attached (state S.Store self.new.connection) t
-                → HasVersion (state S.Store self.new.connection) (pos 2)) }
+            → HasVersion (state S.Store self.new.connection) (pos 2)) }
         ensures known { HasCleanDisk (state S.Store self.new.connection) → (v : ℤ)
             → HasVersion (state S.Store self.old.connection) v
-                → OnOk result ((v ≡ pos 1) ⊎ (v ≡ pos 2)) }
+            → OnOk result ((v ≡ pos 1) ⊎ (v ≡ pos 2)) }
         ensures alien { IfAlien result (λ v. (v ≢ pos 1) × (v ≢ pos 2)) }
         ensures same { IfAlien result (λ v. HasCleanDisk (state S.Store self.new.connection)
             → (w : ℤ)
             → HasVersion (state S.Store self.old.connection) w
-                → (w ≡ v) × HasVersion (state S.Store self.new.connection) w) }
+            → (w ≡ v) × HasVersion (state S.Store self.new.connection) w) }
         ensures migrated { result ≡ Err AttachFault.Memory
             → HasCleanDisk (state S.Store self.new.connection) → (w : ℤ)
             → HasVersion (state S.Store self.old.connection) w
-                → HasVersion (state S.Store self.new.connection) w
+            → HasVersion (state S.Store self.new.connection) w
             ⊎ ((w ≡ pos 1) × HasVersion (state S.Store self.new.connection) (pos 2)) }
 
         // Beside the trait's clauses: it was out of memory before it used the store, or its open
@@ -181,29 +180,29 @@ impl<S: Alter> Keeper for SqlKeeper<S> {
             → HasCleanDisk (state S.Store self.old.connection) }
         ensures ok { HasCleanDisk (state S.Store self.new.connection) → (s : TableRows)
             → TellsAs self.old.attached (state S.Store self.old.connection) s
-                → AddsRowsTo change.now s
+            → AddsRowsTo change.now s
             → OnOk result (IsDurable (TellsAs self.new.attached (state S.Store self.new.connection))
             (MayLeave (state S.Store self.new.connection)) (after s change.now)) }
         ensures memory { HasCleanDisk (state S.Store self.new.connection) → (s : TableRows)
             → TellsAs self.old.attached (state S.Store self.old.connection) s
-                → result ≡ Err CommitFault.Memory
+            → result ≡ Err CommitFault.Memory
             → IsDurable (TellsAs self.new.attached (state S.Store self.new.connection))
-                (MayLeave (state S.Store self.new.connection)) s }
+            (MayLeave (state S.Store self.new.connection)) s }
         ensures crash { HasCleanDisk (state S.Store self.new.connection) → (s : TableRows)
             → TellsAs self.old.attached (state S.Store self.old.connection) s
-                → AddsRowsTo change.now s
+            → AddsRowsTo change.now s
             → (x : TableRows) → MayLeave (state S.Store self.new.connection) x
-                → (x ≡ s) ⊎ (x ≡ after s change.now) }
+            → (x ≡ s) ⊎ (x ≡ after s change.now) }
         ensures version { HasCleanDisk (state S.Store self.new.connection) → (s : TableRows)
             → TellsAs self.old.attached (state S.Store self.old.connection) s
-                → AddsRowsTo change.now s
+            → AddsRowsTo change.now s
             → (v : ℤ) → HasVersion (state S.Store self.old.connection) v → self.new.stopped ≡ false
             → HasVersion (state S.Store self.new.connection) v }
 
         // Beside the trait's clauses: a statement or the commit failed.
         ensures fails { HasCleanDisk (state S.Store self.new.connection)
             → IfErr result
-                (FailsToKeep S.Store self.old.connection self.new.connection change.now) }
+            (FailsToKeep S.Store self.old.connection self.new.connection change.now) }
     {
         let kept = keep(&mut self.connection, change);
         let _after = is_settled(&self.connection);

@@ -88,7 +88,7 @@ pub fn settle_version<S: Alter>(tx: &mut Transaction<'_, S>) -> Result<i64, Erro
     ensures ok { InStore S.Store tx.old.conn.now tx.new.conn.now
         (IsMeta ((state S.Store tx.old.conn.now).now.trees 0)
         → IfOk result (λ version.
-            Settles version (state S.Store tx.old.conn.now) (state S.Store tx.new.conn.now))) }
+        Settles version (state S.Store tx.old.conn.now) (state S.Store tx.new.conn.now))) }
     ensures at { HasCleanDisk (state S.Store tx.new.conn.now)
         → IfOk result (IsAtVersion (state S.Store tx.new.conn.now).now) }
     ensures err { InStore S.Store tx.old.conn.now tx.new.conn.now

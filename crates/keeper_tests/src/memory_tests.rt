@@ -27,13 +27,13 @@ fn keep_two<P: Keeper>(alloc: Global, keeper: &mut P, one: &Change, two: &Change
     ensures done { result ≡ 0 → P.honest keeper.new → (s : TableRows) → P.tells keeper.old s
         → AddsRowsTo one.now s → AddsRowsTo two.now (after s one.now)
         → IsDurable (P.tells keeper.new) (P.may_leave keeper.new)
-            (after (after s one.now) two.now) }
+        (after (after s one.now) two.now) }
     ensures refused { result ≡ 6 → P.honest keeper.new → (s : TableRows) → P.tells keeper.old s
         → IsDurable (P.tells keeper.new) (P.may_leave keeper.new) s }
     ensures crash { P.honest keeper.new → (s : TableRows) → P.tells keeper.old s
         → AddsRowsTo one.now s → AddsRowsTo two.now (after s one.now)
         → (x : TableRows) → P.may_leave keeper.new x
-            → (x ≡ s) ⊎ ((x ≡ after s one.now) ⊎ (x ≡ after (after s one.now) two.now)) }
+        → (x ≡ s) ⊎ ((x ≡ after s one.now) ⊎ (x ≡ after (after s one.now) two.now)) }
 {
     match keeper.attach(alloc, "store") {
         Ok(tables) => drop(tables),

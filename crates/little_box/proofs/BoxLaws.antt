@@ -83,7 +83,7 @@ marked_more : (es : List Entry) (bs : List Bool) (e : Entry) → ((n : ℕ) → 
 marked_more es bs e m w n =
     elim (cases_Bool (nat_eq n e.doc.0)) [
       | inl b ↦ ap (λ k. is_set (slice_get (set bs e.doc.0 true) k)) (same_number n e.doc.0 b) ∙ mark_same bs e.doc.0 true w
-        ∙ sym (last_is_in n es e b)
+          ∙ sym (last_is_in n es e b)
       | inr b ↦ ap is_set (mark_other bs e.doc.0 n true b) ∙ m n ∙ sym (other_more n es e b)
     ]
 
@@ -124,7 +124,7 @@ marked_fewer es bs e x n =
       | inl b ↦
           let k = same_number n e.doc.0 b in
           ap (λ k. is_set (slice_get (set bs e.doc.0 false) k)) k ∙ mark_off bs e.doc.0 ∙ sym (distinct_fewer es e x.distinct).1
-            ∙ ap (λ k. is_in k es) (sym k)
+          ∙ ap (λ k. is_in k es) (sym k)
       | inr b ↦ ap is_set (mark_other bs e.doc.0 n false b) ∙ x.marked n ∙ other_more n es e b
     ]
 

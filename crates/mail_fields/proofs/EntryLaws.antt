@@ -19,8 +19,8 @@ not_empty entry = not (length entry == 0)
 pub entries-cons : (part : List ℕ) (parts : List (List ℕ)) → addresses_in (part ∷ parts) ≡ addresses_in (part ∷ []) ++ addresses_in parts
 entries-cons part parts =
     elim (not_empty (str_to_ascii_lowercase (address_of part)))
-      as (λ b. (if b then str_to_ascii_lowercase (address_of part) ∷ addresses_in parts else addresses_in parts)
-        ≡ (if b then str_to_ascii_lowercase (address_of part) ∷ [] else []) ++ addresses_in parts) [ true ↦ refl | false ↦ refl ]
+    as (λ b. (if b then str_to_ascii_lowercase (address_of part) ∷ addresses_in parts else addresses_in parts)
+    ≡ (if b then str_to_ascii_lowercase (address_of part) ∷ [] else []) ++ addresses_in parts) [ true ↦ refl | false ↦ refl ]
 
 -- parts between blanks
 pub referred-first : (value : List ℕ) (n : ℕ) → n ≡ position_or_len is_blank value
@@ -71,38 +71,39 @@ comma-cut : (quoted : Bool) (value : List ℕ) → comma_place quoted value < le
 comma-cut quoted [] lt = absurd (omega arith)
 comma-cut quoted (b ∷ value) lt = go (b == 34) refl (b == 44 && not quoted) refl (λ q. comma-cut q value) where
   go : (x : Bool) → (b == 34) ≡ x → (y : Bool) → (b == 44 && not quoted) ≡ y → ((q : Bool) → comma_place q value < length value
-        → comma_parts_from q value ≡ take (comma_place q value) value ∷ comma_parts_from false (drop (comma_place q value + 1) value))
+      → comma_parts_from q value ≡ take (comma_place q value) value ∷ comma_parts_from false (drop (comma_place q value + 1) value))
       → comma_parts_from quoted (b ∷ value)
       ≡ take (comma_place quoted (b ∷ value)) (b ∷ value) ∷ comma_parts_from false (drop (comma_place quoted (b ∷ value) + 1) (b ∷ value))
   go true e y f rec =
       let place : comma_place quoted (b ∷ value) ≡ 1 + comma_place (not quoted) value = rw e refl in
       let parts : comma_parts_from quoted (b ∷ value) ≡ onto_first b (comma_parts_from (not quoted) value) = rw e refl in
       parts ∙ ap (onto_first b) (rec (not quoted) (omega arith))
-        ∙ sym (subst (λ k. take k (b ∷ value) ∷ comma_parts_from false (drop (k + 1) (b ∷ value))
-            ≡ (b ∷ take (comma_place (not quoted) value) value) ∷ comma_parts_from false (drop (comma_place (not quoted) value + 1) value))
-          (sym place) (rw (take-one b value (comma_place (not quoted) value), drop-one b value (comma_place (not quoted) value)) refl))
+      ∙ sym (subst (λ k. take k (b ∷ value) ∷ comma_parts_from false (drop (k + 1) (b ∷ value))
+      ≡ (b ∷ take (comma_place (not quoted) value) value) ∷ comma_parts_from false (drop (comma_place (not quoted) value + 1) value))
+      (sym place) (rw (take-one b value (comma_place (not quoted) value), drop-one b value (comma_place (not quoted) value)) refl))
   go false e true f rec =
       let place : comma_place quoted (b ∷ value) ≡ 0 = rw (e, f) refl in
       let parts : comma_parts_from quoted (b ∷ value) ≡ [] ∷ comma_parts_from quoted value = rw (e, f) refl in
       parts ∙ ap (λ q. [] ∷ comma_parts_from q value) (and_not (b == 44) quoted f)
-        ∙ sym (subst (λ k. take k (b ∷ value) ∷ comma_parts_from false (drop (k + 1) (b ∷ value)) ≡ [] ∷ comma_parts_from false value)
-          (sym place) refl)
+      ∙ sym (subst (λ k. take k (b ∷ value) ∷ comma_parts_from false (drop (k + 1) (b ∷ value)) ≡ [] ∷ comma_parts_from false value)
+      (sym place) refl)
   go false e false f rec =
       let place : comma_place quoted (b ∷ value) ≡ 1 + comma_place quoted value = rw (e, f) refl in
       let parts : comma_parts_from quoted (b ∷ value) ≡ onto_first b (comma_parts_from quoted value) = rw (e, f) refl in
       parts ∙ ap (onto_first b) (rec quoted (omega arith))
-        ∙ sym (subst (λ k. take k (b ∷ value) ∷ comma_parts_from false (drop (k + 1) (b ∷ value))
-            ≡ (b ∷ take (comma_place quoted value) value) ∷ comma_parts_from false (drop (comma_place quoted value + 1) value)) (sym place)
-          (rw (take-one b value (comma_place quoted value), drop-one b value (comma_place quoted value)) refl))
+      ∙ sym (subst (λ k. take k (b ∷ value) ∷ comma_parts_from false (drop (k + 1) (b ∷ value))
+      ≡ (b ∷ take (comma_place quoted value) value) ∷ comma_parts_from false (drop (comma_place quoted value + 1) value)) (sym place)
+      (rw (take-one b value (comma_place quoted value), drop-one b value (comma_place quoted value)) refl))
 
 listed-here : (value : List ℕ)
     → listed value ≡ addresses_in (take (comma_place false value) value ∷ []) ++ listed (drop (comma_place false value + 1) value)
 listed-here value =
     elim (cases_lt (comma_place false value) (length value)) [
       | inl lt ↦ ap addresses_in (comma-cut false value lt)
-        ∙ entries-cons (take (comma_place false value) value) (comma_parts_from false (drop (comma_place false value + 1) value))
+          ∙ entries-cons (take (comma_place false value) value) (comma_parts_from false (drop (comma_place false value + 1) value))
       | inr le ↦ ap addresses_in (comma-whole false value le)
-        ∙ rw (take_all (comma_place false value) value le, drop_all (comma_place false value + 1) value (omega arith)) (sym (append-nil _))
+          ∙ rw (take_all (comma_place false value) value le, drop_all (comma_place false value + 1) value (omega arith))
+          (sym (append-nil _))
     ]
 
 pub listed-first : (value : List ℕ) (n : ℕ) → n ≡ comma_place false value

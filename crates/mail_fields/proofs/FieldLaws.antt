@@ -12,13 +12,24 @@ use Rattle.tap_rows.specs.Fields.{fields_in, value_of, entry_of, message_words}
 pub fields-same :
     (header : List HeaderField) (body : List (List ℕ)) (n : ℕ) (d : Option ℤ) (f s m i : Option (List ℕ)) (t c g r w : List (List ℕ))
     → d ≡ option_and_then date_of (value_of (codes "Date") header) → f ≡ entry_of listed (value_of (codes "From") header)
-        → s ≡ value_of (codes "Subject") header
+    → s ≡ value_of (codes "Subject") header
     → m ≡ entry_of identified (value_of (codes "Message-ID") header) → i ≡ entry_of identified (value_of (codes "In-Reply-To") header)
     → t ≡ flat_map listed (values_of (codes "To") header) → c ≡ flat_map listed (values_of (codes "Cc") header)
-        → g ≡ flat_map listed (values_of (codes "Newsgroups") header)
+    → g ≡ flat_map listed (values_of (codes "Newsgroups") header)
     → r ≡ flat_map referred (values_of (codes "References") header) → w ≡ message_words (value_of (codes "Subject") header) body
-    → record { date = d; from = f; subject = s; msgid = m; inreplyto = i; to = t; cc = c; newsgroups = g; references = r; words = w;
-          size = n } ≡ fields_in header body n
+    → record {
+      date = d;
+      from = f;
+      subject = s;
+      msgid = m;
+      inreplyto = i;
+      to = t;
+      cc = c;
+      newsgroups = g;
+      references = r;
+      words = w;
+      size = n;
+    } ≡ fields_in header body n
 fields-same header body n d f s m i t c g r w ed ef es em ei et ec eg er ew j = record {
   date = ed j;
   from = ef j;

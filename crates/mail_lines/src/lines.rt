@@ -54,10 +54,10 @@ pub fn next_line(text: &[u8], at: usize) -> Option<LineAt>
     requires { IsPlaceOrEnd text.now at }
     ensures some { IfSome result (λ l.
         lines (drop at text.now)
-            ≡ slice_range text.now l.start l.end ∷ lines (drop l.next text.now)) }
+        ≡ slice_range text.now l.start l.end ∷ lines (drop l.next text.now)) }
     ensures within { IfSome result (λ l.
         (l.start ≡ at) × (l.start ≤ l.end) × (l.end ≤ l.next) × (l.next ≤ length text.now)
-            × (at < l.next)) }
+        × (at < l.next)) }
     ensures none { IfNone result (at ≡ length text.now) }
 {
     if at == text.len() {

@@ -117,8 +117,15 @@ free_few false = omega arith
 
 -- a query's EXISTS stand in one another five times at most
 pub nested_few : (c : Condition) (scope : List ℕ) → Scoped scope c → nested c ≤ 5
-nested_few c scope s = omega (arith, nested_count c scope s, free_few (has 1 scope), free_few (has 2 scope), free_few (has 3 scope),
-      free_few (has 4 scope), free_few (has 5 scope))
+nested_few c scope s = omega (
+  arith,
+  nested_count c scope s,
+  free_few (has 1 scope),
+  free_few (has 2 scope),
+  free_few (has 3 scope),
+  free_few (has 4 scope),
+  free_few (has 5 scope),
+)
 
 pub short_from : (c : Condition) (a : ℤ) → IsQuery c → (mark : Mark) → In mark (marks_from c a) → length mark.path ≤ 5
 short_from c a q mark i =
@@ -187,9 +194,15 @@ nested_fold at (Plain (Times x op y)) =
     ]
 nested_fold at (NowAtLeast e) = omega arith
 nested_fold at (NowBefore e) = omega arith
-nested_fold at (All l r) = omega (arith, all_nested (known (fold at l)) (known (fold at r)) (fold at l) (fold at r),
-      higher_both (nested (fold at l)) (nested (fold at r)) (nested l) (nested r) (nested_fold at l) (nested_fold at r))
-nested_fold at (Either l r) = omega (arith, either_nested (known (fold at l)) (known (fold at r)) (fold at l) (fold at r),
-      higher_both (nested (fold at l)) (nested (fold at r)) (nested l) (nested r) (nested_fold at l) (nested_fold at r))
+nested_fold at (All l r) = omega (
+  arith,
+  all_nested (known (fold at l)) (known (fold at r)) (fold at l) (fold at r),
+  higher_both (nested (fold at l)) (nested (fold at r)) (nested l) (nested r) (nested_fold at l) (nested_fold at r),
+)
+nested_fold at (Either l r) = omega (
+  arith,
+  either_nested (known (fold at l)) (known (fold at r)) (fold at l) (fold at r),
+  higher_both (nested (fold at l)) (nested (fold at r)) (nested l) (nested r) (nested_fold at l) (nested_fold at r),
+)
 nested_fold at (Not x) = omega (arith, not_nested (known (fold at x)) (fold at x), nested_fold at x)
 nested_fold at (Exists v t x) = omega (arith, exists_nested (known (fold at x)) v t (fold at x), nested_fold at x)

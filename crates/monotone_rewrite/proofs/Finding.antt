@@ -58,16 +58,26 @@ fine (Either l r) up scope sc mark i =
 fine (Not x) up scope sc mark i = fine x (not up) scope sc mark i
 fine (Exists v t x) up scope sc mark i =
     let k = map_in (under_step (step_of v t x)) (mark_if up (arrival_term (copy v)) ++ marks x up) mark i in
-    let f : Fine k.0 = elim (append_in (mark_if up (arrival_term (copy v))) (marks x up) k.0 k.1) [ inl j ↦
-          fine_if up (arrival_term v) k.0 j | inr j ↦ fine x up (v.0 ∷ scope) sc.3 k.0 j ] in
-    record { apart = subst (λ z. Apart z.path) (sym k.2) (copied_pos v.0 sc.0, f.apart); term = f.term; is_copy = ap (λ z. z.at) k.2
-        ∙ f.is_copy }
+    let f : Fine k.0 = elim (append_in (mark_if up (arrival_term (copy v))) (marks x up) k.0 k.1) [
+      | inl j ↦
+          fine_if up (arrival_term v) k.0 j
+      | inr j ↦ fine x up (v.0 ∷ scope) sc.3 k.0 j
+    ] in
+    record {
+      apart = subst (λ z. Apart z.path) (sym k.2) (copied_pos v.0 sc.0, f.apart);
+      term = f.term;
+      is_copy = ap (λ z. z.at) k.2
+          ∙ f.is_copy;
+    }
 
 pub fine_from : (c : Condition) (a : ℤ) → IsQuery c → (mark : Mark) → In mark (marks_from c a) → Fine mark
 fine_from c a q mark i =
     elim (append_in (mark_if true (arrival_term document_var) ++ marks c true) (mark_if (int_lt (pos 0) a) (fixed_term a)) mark i) [
-      | inl j ↦ elim (append_in (mark_if true (arrival_term document_var)) (marks c true) mark j) [ inl k ↦
-          fine_if true (arrival_term document_var) mark k | inr k ↦ fine c true (0 ∷ []) q mark k ]
+      | inl j ↦ elim (append_in (mark_if true (arrival_term document_var)) (marks c true) mark j) [
+        | inl k ↦
+            fine_if true (arrival_term document_var) mark k
+        | inr k ↦ fine c true (0 ∷ []) q mark k
+      ]
       | inr j ↦ fine_if (int_lt (pos 0) a) (fixed_term a) mark j
     ]
 
@@ -111,11 +121,11 @@ module _ (c : Condition) (a : ℤ) (q : IsQuery c) (T : Tables) (d : Doc) where
       let mark = under_step (step_of document_var Docs c) k.mark in
       let here = subst (λ t. value t k.final ≡ Some s) f.is_copy k.reaches in
       let true_body = subst (λ t. truth T (pos 0) (body c t) k.final ≡ true) (sym f.is_copy)
-          (body_truth T (pos 0) s f.term c (0 ∷ []) (asked_of d) k.final q (only_m k.final (k.keeps 0 (inl refl))) here ∙ y) in
+      (body_truth T (pos 0) s f.term c (0 ∷ []) (asked_of d) k.final q (only_m k.final (k.keeps 0 (inl refl))) here ∙ y) in
       let guards = and_from _ _ (guards_hold (0 ∷ []) (asked_of d) k.final k.keeps (visible T s) s c q y) k.guards in
       let come' = along_come T d s k.mark.path (asked_of d) k.final k.along (and_from _ _ come refl) in
       let fit : is_satisfied (probe_of c mark) T s k.final ≡ true =
-          and_from _ _ (and_from _ _ (and_from _ _ guards (value_is _ s k.reaches)) come') true_body in
+      and_from _ _ (and_from _ _ (and_from _ _ guards (value_is _ s k.reaches)) come') true_body in
       in_any (finds T d s) (unfolded c a) (probe_of c mark)
       (in_map (probe_of c) (rising_from c a) mark (in_map (under_step (step_of document_var Docs c)) (marks_from c a) k.mark k.is_mark))
       (or_left _ false (rows_pass T d s k.mark.path (asked_of d) k.final (is_satisfied (probe_of c mark) T s) f.apart k.along fit))
@@ -125,7 +135,7 @@ module _ (c : Condition) (a : ℤ) (q : IsQuery c) (T : Tables) (d : Doc) where
   begins u s n h b =
       let p = and_parts (int_le d.arrival s) (truth (visible T s) s c (asked_of d)) b in
       crossed_found s p.0 p.1 (crossed_left T s (0 ∷ []) (asked_of d) (asked_of d)
-          (mark_if true (arrival_term document_var) ++ marks c true) (mark_if (int_lt (pos 0) a) (fixed_term a)) (
+      (mark_if true (arrival_term document_var) ++ marks c true) (mark_if (int_lt (pos 0) a) (fixed_term a)) (
       elim (cases_Bool (int_le d.arrival u)) [
         | inl was ↦
             let a' : truth (visible T u) u c (asked_of d) ≡ false = rw was at h in
@@ -134,7 +144,7 @@ module _ (c : Condition) (a : ℤ) (q : IsQuery c) (T : Tables) (d : Doc) where
         | inr new ↦
             crossed_left T s (0 ∷ []) (asked_of d) (asked_of d) (mark_if true (arrival_term document_var)) (marks c true)
             (crossed_here T s (0 ∷ []) (asked_of d) (asked_of d) true (arrival_term document_var) refl
-              (ap Some (plus_none d.arrival ∙ reached u s d.arrival n new p.0)) keeps_m)
+            (ap Some (plus_none d.arrival ∙ reached u s d.arrival n new p.0)) keeps_m)
       ]))
 
   -- and so is one that is given at the start, if that is above 0
@@ -144,7 +154,7 @@ module _ (c : Condition) (a : ℤ) (q : IsQuery c) (T : Tables) (d : Doc) where
       let late : int_lt (pos 0) a ≡ true = grind (arith, ints) in
       let sum : pos 0 +ℤ a ≡ a = omega (arith, ints) in
       crossed_found a p.0 p.1 (crossed_right T a (0 ∷ []) (asked_of d) (asked_of d)
-          (mark_if true (arrival_term document_var) ++ marks c true) (mark_if (int_lt (pos 0) a) (fixed_term a))
+      (mark_if true (arrival_term document_var) ++ marks c true) (mark_if (int_lt (pos 0) a) (fixed_term a))
       (crossed_here T a (0 ∷ []) (asked_of d) (asked_of d) (int_lt (pos 0) a) (fixed_term a) late (ap Some sum) keeps_m))
 
   -- and whatever is found is given then
@@ -156,9 +166,9 @@ module _ (c : Condition) (a : ℤ) (q : IsQuery c) (T : Tables) (d : Doc) where
       let l = map_in (under_step step) (marks_from c a) k.0 k.1 in
       let f = fine_from c a q l.0 l.1 in
       let finds' : finds T d b (probe_of c (under_step step l.0)) ≡ true =
-          subst (λ z. finds T d b z ≡ true) (k.2 ∙ ap (probe_of c) l.2) p.2 in
+      subst (λ z. finds T d b z ≡ true) (k.2 ∙ ap (probe_of c) l.2) p.2 in
       let some : some_rows T d l.0.path (asked_of d) (is_satisfied (probe_of c (under_step step l.0)) T b) ≡ true =
-          elim (or_cases _ false finds') [ inl y ↦ y | inr n ↦ absurd (false≢true n) ] in
+      elim (or_cases _ false finds') [ inl y ↦ y | inr n ↦ absurd (false≢true n) ] in
       let e = some_pass T d b l.0.path (asked_of d) (is_satisfied (probe_of c (under_step step l.0)) T b) f.apart some in
       let w = and_parts _ _ e.1 in
       let x = and_parts _ _ w.0 in

@@ -162,7 +162,7 @@ module _ (T : Tables) (n : ℤ) (e : Term) where
             let z = there scope env h p x.base i w.1 in
             let vx : value x env ≡ Some (z.0 +ℤ x.plus) = ap (λ o. plus_to o x.plus) z.1 in
             let vy : value y env ≡ Some (z.0 +ℤ y.plus) = ap (λ b. plus_to (base_value b env) y.plus) (sym same)
-                ∙ ap (λ o. plus_to o y.plus) z.1 in
+            ∙ ap (λ o. plus_to o y.plus) z.1 in
             rw (t, vx, vy) (constant_truth (compare op x.plus y.plus) env ∙ sym (moved op z.0 x.plus y.plus))
         | inr f ↦ rw f
       ]
@@ -233,4 +233,4 @@ module _ (T : Tables) (n : ℤ) (e : Term) where
   fold_truth (Exists v t x) scope env na h p =
       exists_truth _ v t (fold (copy_term e) x) env refl
       ∙ any_same _ _ (rows_of t T) (λ r.
-          fold_truth x (v.0 ∷ scope) (bind v r env) na.2 (bounds_bind scope env v r h) (p.0, base_stays e.base v r env na.0 na.1 ∙ p.1))
+      fold_truth x (v.0 ∷ scope) (bind v r env) na.2 (bounds_bind scope env v r h) (p.0, base_stays e.base v r env na.0 na.1 ∙ p.1))

@@ -51,7 +51,7 @@ in_put a (b ∷ bs) h i =
     elim (cases_Bool (is_before a b)) [
       | inl y ↦ rw y i
       | inr n ↦
-        rw n (elim i [ inl e ↦ inr (in_put a bs h (inl e)) | inr j ↦ elim j [ inl e ↦ inl e | inr k ↦ inr (in_put a bs h (inr k)) ] ])
+          rw n (elim i [ inl e ↦ inr (in_put a bs h (inl e)) | inr j ↦ elim j [ inl e ↦ inl e | inr k ↦ inr (in_put a bs h (inr k)) ] ])
     ]
 
 put_out : (a : Hit) (bs : List Hit) (h : Hit) → In h (put_in a bs) → In h (a ∷ bs)
@@ -135,7 +135,7 @@ module _ (c : Condition) (T : Tables) (a : ℤ) where
       let f = first_there (given c T d) (count_between a t) a s lo (omega (arith, ints, z)) y in
       let hit = in_ordered _ _ (in_hits (λ d. at_least a (first c T d a t)) T.docs d f.0 i (zero_on t d ∙ f.1)) in
       in_any (λ k. nat_eq k d.num.0) (union_docs c T a t) d.num.0 (in_map (λ (h : Hit). h.doc.0) (union c T a t) _ hit)
-          (eq-eqb d.num.0 d.num.0 refl)
+      (eq-eqb d.num.0 d.num.0 refl)
 
   -- and the other way round
   in_given : (t : ℤ) (n : ℕ) → in_union c T a t n ≡ true
@@ -145,9 +145,16 @@ module _ (c : Condition) (T : Tables) (a : ℤ) where
       let l = map_in (λ (h : Hit). h.doc.0) (union c T a t) k.0 k.1 in
       let r = hits_in (λ d. at_least a (first c T d a t)) T.docs l.0 (ordered_in _ l.0 l.1) in
       let e : first c T r.0 a t ≡ Some l.0.first = sym (zero_on t r.0) ∙ r.2 in
-      let b = first_from-within (given c T r.0) (count_between a t) a l.0.first e in
-      (r.0, l.0.first, r.1, sym (eqb-true k.0 n k.2) ∙ l.2
-        ∙ ap (λ z. z.0) r.3, b.0, gap-end a t l.0.first b.0 b.1, first_passes (given c T r.0) (count_between a t) a l.0.first e)
+      let b = first_from-within (given c T r.0) (count_between a t) a l.0.first e in (
+        r.0,
+        l.0.first,
+        r.1,
+        sym (eqb-true k.0 n k.2) ∙ l.2
+            ∙ ap (λ z. z.0) r.3,
+        b.0,
+        gap-end a t l.0.first b.0 b.1,
+        first_passes (given c T r.0) (count_between a t) a l.0.first e,
+      )
 
   gives_in : (d : Doc) (s : ℤ) → In d (gives c T s) → In d T.docs × (given c T d s ≡ true)
   gives_in d s i = filter_in (λ d. given c T d s) T.docs d i

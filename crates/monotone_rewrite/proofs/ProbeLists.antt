@@ -24,4 +24,4 @@ pub next_mark : (c : Condition) (ms rest : List Mark) (i : ℕ) (mark : Mark) (x
     → ys ≡ xs ++ filter can_find (fold_probe (probe_of c mark) ∷ []) → probes_for c ms ≡ ys ++ probes_for c rest
 next_mark c ms rest i mark xs ys e d y =
     e ∙ ap (λ z. xs ++ probes_for c z) d ∙ ap (λ z. xs ++ z) (one_and_rest c mark rest) ∙ sym (append_assoc xs _ _)
-      ∙ ap (λ z. z ++ probes_for c rest) (sym y)
+    ∙ ap (λ z. z ++ probes_for c rest) (sym y)

@@ -19,17 +19,17 @@ module _ (nodes : List TNode) where
   -- what two numbers say together, if what each says is known
   pub all_known : (after : List TNode) (l r id : ℕ) (x y : Condition) → IsTreeAt nodes l x → IsTreeAt nodes r y
       → IsTreeAt after id (fold_all (known (tree_at nodes l)) (known (tree_at nodes r)) (tree_at nodes l) (tree_at nodes r))
-          → IsTreeAt after id (fold_all (known x) (known y) x y)
+      → IsTreeAt after id (fold_all (known x) (known y) x y)
   all_known after l r id x y a b t = record { within = t.within; is = t.is ∙ rw (a.is, b.is) refl }
 
   pub either_known : (after : List TNode) (l r id : ℕ) (x y : Condition) → IsTreeAt nodes l x → IsTreeAt nodes r y
       → IsTreeAt after id (fold_either (known (tree_at nodes l)) (known (tree_at nodes r)) (tree_at nodes l) (tree_at nodes r))
-          → IsTreeAt after id (fold_either (known x) (known y) x y)
+      → IsTreeAt after id (fold_either (known x) (known y) x y)
   either_known after l r id x y a b t = record { within = t.within; is = t.is ∙ rw (a.is, b.is) refl }
 
   pub exists_known : (after : List TNode) (l id : ℕ) (v : Var) (table : Table) (x : Condition) → IsTreeAt nodes l x
       → IsTreeAt after id (fold_exists (known (tree_at nodes l)) v table (tree_at nodes l))
-          → IsTreeAt after id (fold_exists (known x) v table x)
+      → IsTreeAt after id (fold_exists (known x) v table x)
   exists_known after l id v table x a t = record { within = t.within; is = t.is ∙ rw a.is refl }
 
 module _ (old new : List TNode) (keeps : KeepsTrees old new) where

@@ -76,7 +76,7 @@ module _ (c : Condition) (a : ℤ) (q : IsQuery c) (start : pos 0 ≤ℤ a) (T :
       let next : tau ≡ b +ℤ pos 1 = omega (arith, ints) in
       let z = gap-is a tau h in
       begins c a q T d b tau next (first_from-none (given c T d) (count_between a tau) a b n (omega (arith, ints)) (omega (arith, ints, z)))
-        y)
+      y)
       (λ w. let z : a ≡ tau = omega (arith, ints) in
       subst (λ x. given c T d x ≡ true → found (unfolded c a) T d x ≡ true) z at_start y)
 
@@ -92,7 +92,7 @@ module _ (c : Condition) (a : ℤ) (q : IsQuery c) (start : pos 0 ≤ℤ a) (T :
           (least (unfolded c a) T d (record { low = tau; high = t })) ≡ at_least tau (first c T d a t)
       go None e =
           rw (parts, e) (sym (least_first (count_between tau t) tau (at_tau tau h e))
-              ∙ sym (keep_all tau (first c T d tau t) (λ f y. (first_from-within (given c T d) (count_between tau t) tau f y).0)))
+          ∙ sym (keep_all tau (first c T d tau t) (λ f y. (first_from-within (given c T d) (count_between tau t) tau f y).0)))
       go (Some f) e =
           let hi = (first_from-within (given c T d) (count_between a tau) a f e).1 in
           let z = gap-is a tau h in
@@ -104,10 +104,10 @@ unfolded_is_union c a q st = record {
   whole = λ T t from.
       ap hits_in_order (hits_same (λ d. least (unfolded c a) T d (record { low = a; high = t })) (λ d. at_least a (first c T d a t)) T.docs
       (λ d i. first_whole c a q st T d (from d i) t
-        ∙ sym (keep_all a (first c T d a t) (λ f y. (first_from-within (given c T d) (count_between a t) a f y).0))));
+      ∙ sym (keep_all a (first c T d a t) (λ f y. (first_from-within (given c T d) (count_between a t) a f y).0))));
   since = λ T tau t from h k. ap hits_in_order
       (hits_without (λ d. is_some (first c T d a tau)) (λ d. least (unfolded c a) T d (record { low = tau; high = t })) T.docs
       ∙ hits_same (λ d. none_if (is_some (first c T d a tau)) (least (unfolded c a) T d (record { low = tau; high = t })))
-          (λ d. at_least tau (first c T d a t)) T.docs
+      (λ d. at_least tau (first c T d a t)) T.docs
       (λ d i. first_since c a q st T d (from d i) tau t h k));
 }

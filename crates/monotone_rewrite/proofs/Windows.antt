@@ -105,7 +105,7 @@ module _ (T : Tables) (d : Doc) where
   some_same [] env test test' a h = h env refl
   some_same (step ∷ path) env test test' a h =
       any_same _ _ (choices T d step) (λ r. some_same path (bind step.var r env) test test' a.1 (λ final e.
-        h final (e ∙ bind_other 0 step.var r env (λ z. a.0 (sym z)))))
+      h final (e ∙ bind_other 0 step.var r env (λ z. a.0 (sym z)))))
 
   some_never : (path : List Step) (env : Env) (test : Env → Bool) → ((final : Env) → test final ≡ false)
       → some_rows T d path env test ≡ false
@@ -139,14 +139,14 @@ module _ (c : Condition) (a : ℤ) (q : IsQuery c) (T : Tables) (d : Doc) (b : �
   fold_finds : (mark : Mark) → Fine mark → finds T d b (fold_probe (probe_at c mark)) ≡ finds T d b (probe_at c mark)
   fold_finds mark f =
       ap (λ y. y || false) (some_same T d mark.path (asked_of d) (is_satisfied (fold_probe (probe_at c mark)) T b)
-          (is_satisfied (probe_at c mark) T b) f.apart (λ final e.
+      (is_satisfied (probe_at c mark) T b) f.apart (λ final e.
       and_last (guards_true (probe_at c mark).path final) (is_value (value mark.at final) b) (come_by b final) _ _ (λ y.
       let v = subst (λ t. value t final ≡ Some b) f.is_copy (is_value_of (value mark.at final) b y) in
       let z = base_there (base_value (copy_base f.term.base) final) f.term.plus b v in
       subst (λ t. truth T (pos 0) (fold t (body c t)) final ≡ truth T (pos 0) (body c t) final) (sym f.is_copy)
       (fold_truth T (pos 0) f.term (body c (copy_term f.term)) (at_scope (copy_base f.term.base)) final
       (body_named (copy_term f.term) c (0 ∷ []) (at_scope (copy_base f.term.base)) q (m_in (copy_base f.term.base))
-        (at_in (copy_base f.term.base)))
+      (at_in (copy_base f.term.base)))
       (at_bound (copy_base f.term.base) final z.0 z.1 (m_bound final d e)) z))))
 
   -- a probe whose body is False finds nothing
@@ -174,10 +174,10 @@ pub same_union : (c : Condition) (a : ℤ) (X Y : List Probe) → ((T : Tables) 
 same_union c a X Y h u = record {
   whole = λ T t from.
       ap hits_in_order (hits_same (λ d. least X T d (record { low = a; high = t })) (λ d. least Y T d (record { low = a; high = t }))
-        T.docs (λ d i. first_from_same (found X T d) (found Y T d) (count_between a t) a (h T d))) ∙ u.whole T t from;
+      T.docs (λ d i. first_from_same (found X T d) (found Y T d) (count_between a t) a (h T d))) ∙ u.whole T t from;
   since = λ T tau t from g b. ap hits_in_order (hits_same (λ d. least X T d (record { low = tau; high = t }))
-        (λ d. least Y T d (record { low = tau; high = t })) (filter (λ d. not (is_some (first c T d a tau))) T.docs)
-        (λ d i. first_from_same (found X T d) (found Y T d) (count_between tau t) tau (h T d))) ∙ u.since T tau t from g b;
+      (λ d. least Y T d (record { low = tau; high = t })) (filter (λ d. not (is_some (first c T d a tau))) T.docs)
+      (λ d i. first_from_same (found X T d) (found Y T d) (count_between tau t) tau (h T d))) ∙ u.since T tau t from g b;
 }
 
 pub window_is_union : WindowIsUnion
@@ -186,4 +186,4 @@ window_is_union c a q st = same_union c a (window c a) (unfolded c a) (window_fo
 pub distinct_is_union : DistinctIsUnion
 distinct_is_union c a q st =
     same_union c a (distinct_probes (window c a)) (window c a) (λ T d b. distinct_found same_probe probe_is (finds T d b) [] (window c a))
-      (window_is_union c a q st)
+    (window_is_union c a q st)

@@ -76,12 +76,19 @@ unnoted-window : window_meaning (window unnoted (pos 0)) (rows (doc 1 100 ∷ []
 unnoted-window = refl
 
 unnoted-probes : window unnoted (pos 0)
-    ≡ record { path = record { var = document_var; table = Docs; guards = [] } ∷ []; at = ts document_var 0;
-          body = Not (Exists v1 Notes (All (Plain (Times (ts v1 0) Le (ts document_var 0)))
-              (All (Plain (of_doc v1)) (Plain (Times (ts document_var 0) Lt (ts v1 5)))))) }
-    ∷ record { path = record { var = document_var; table = Docs; guards = [] } ∷ record { var = p1; table = Notes; guards = of_doc p1 ∷ [] }
-          ∷ []; at = ts p1 5; body = Not
-          (Exists v1 Notes (All (Plain (Times (ts v1 0) Le (ts p1 5))) (All (Plain (of_doc v1)) (Plain (Times (ts p1 5) Lt (ts v1 5)))))) }
+    ≡ record {
+      path = record { var = document_var; table = Docs; guards = [] } ∷ [];
+      at = ts document_var 0;
+      body = Not (Exists v1 Notes (All (Plain (Times (ts v1 0) Le (ts document_var 0)))
+          (All (Plain (of_doc v1)) (Plain (Times (ts document_var 0) Lt (ts v1 5))))));
+    }
+    ∷ record {
+      path = record { var = document_var; table = Docs; guards = [] } ∷ record { var = p1; table = Notes; guards = of_doc p1 ∷ [] }
+          ∷ [];
+      at = ts p1 5;
+      body = Not
+          (Exists v1 Notes (All (Plain (Times (ts v1 0) Le (ts p1 5))) (All (Plain (of_doc v1)) (Plain (Times (ts p1 5) Lt (ts v1 5))))));
+    }
     ∷ []
 unnoted-probes = refl
 

@@ -24,7 +24,7 @@ pub record IsUnionOf (c : Condition) (start : ℤ) (X : List Probe) : Type 0 whe
   pub whole : (T : Tables) (t : ℤ) → FromZero T → window_meaning X T (record { low = start; high = t }) ≡ union_until (truth_of c) T start t
   pub since : (T : Tables) (tau t : ℤ) → FromZero T → start ≤ℤ tau → tau ≤ℤ t
       → meaning_without (λ d. is_some (first_second (truth_of c) T d start tau)) X T (record { low = tau; high = t })
-          ≡ fresh_in (truth_of c) T start tau t
+      ≡ fresh_in (truth_of c) T start tau t
 
 abbrev pub WindowIsUnion : Type 0
 WindowIsUnion = (c : Condition) (start : ℤ) → IsQuery c → pos 0 ≤ℤ start → IsUnionOf c start (window c start)

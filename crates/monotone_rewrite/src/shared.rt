@@ -66,7 +66,7 @@ pub(crate) fn shared_all(pool: &mut Pool<TNode>, l: NodeId, r: NodeId) -> Result
     requires right { IsPlaceOf pool.old r.0 }
     ensures kept { OnOk result (KeepsTrees pool.old pool.new) }
     ensures tree { IfOk result (λ id. IsTreeAt pool.new id.0 (fold_all
-          (known (tree_at pool.old l.0)) (known (tree_at pool.old r.0)) (tree_at pool.old l.0)
+        (known (tree_at pool.old l.0)) (known (tree_at pool.old r.0)) (tree_at pool.old l.0)
         (tree_at pool.old r.0))) }
 {
     match (kind_of(pool, l), kind_of(pool, r)) {
@@ -84,7 +84,7 @@ pub(crate) fn shared_either(pool: &mut Pool<TNode>, l: NodeId, r: NodeId) -> Res
     requires right { IsPlaceOf pool.old r.0 }
     ensures kept { OnOk result (KeepsTrees pool.old pool.new) }
     ensures tree { IfOk result (λ id. IsTreeAt pool.new id.0 (fold_either
-          (known (tree_at pool.old l.0)) (known (tree_at pool.old r.0)) (tree_at pool.old l.0)
+        (known (tree_at pool.old l.0)) (known (tree_at pool.old r.0)) (tree_at pool.old l.0)
         (tree_at pool.old r.0))) }
 {
     match (kind_of(pool, l), kind_of(pool, r)) {

@@ -44,8 +44,11 @@ fn push_probe(
     requires kept { are_kept pool.now probes.old ≡ true }
     ensures kept { OnOk result (are_kept pool.now probes.new ≡ true) }
     ensures probes { OnOk result (probes_in pool.now probes.new ≡ probes_in pool.now probes.old
-        ++ filter can_find (record { path = mark.now.path; at = mark.now.at;
-                body = tree_at pool.now body.0 } ∷ [])) }
+        ++ filter can_find (record {
+          path = mark.now.path;
+          at = mark.now.at;
+          body = tree_at pool.now body.0;
+        } ∷ [])) }
 {
     if can_find(pool, body) {
         let path = mark.path.copy()?;

@@ -23,10 +23,10 @@ pub seen-once : (bytes : List ℕ) (old new : List Seen) (one : Seen) (taken : L
     → (l o : Option (List ℕ)) → WasSeen bytes new l o → WasSeen bytes old l o ⊎ ((l ≡ Some (drop one.at bytes)) × (o ≡ Some taken))
 seen-once bytes old new one taken is out l o was =
     subst (λ xs. WasSeen bytes old l o ⊎ ((l ≡ Some (drop one.at bytes)) × (o ≡ Some xs))) out
-      (seen-more bytes old one l o (subst (λ xs. WasSeen bytes xs l o) is was))
+    (seen-more bytes old one l o (subst (λ xs. WasSeen bytes xs l o) is was))
 
 pub seen-now : (bytes : List ℕ) (old new : List Seen) (one : Seen) (taken : List ℕ) → new ≡ old ++ one ∷ [] → one.out ≡ taken
     → WasSeen bytes new (Some (drop one.at bytes)) (Some taken)
 seen-now bytes old new one taken is out =
     subst (λ xs. WasSeen bytes new (Some (drop one.at bytes)) (Some xs)) out
-      (subst (λ xs. WasSeen bytes xs (Some (drop one.at bytes)) (Some one.out)) (sym is) (seen-last bytes old one))
+    (subst (λ xs. WasSeen bytes xs (Some (drop one.at bytes)) (Some one.out)) (sym is) (seen-last bytes old one))

@@ -94,11 +94,11 @@ impl Peer<MemSink> for WatchedSource {
         ensures asked { AskedOnlyWhen (λ l o. (l ≡ Some (drop self.old.at self.old.bytes))
             × (o ≡ Some sink.now.taken))
             (WasSeen self.old.bytes self.old.seen.items)
-                (WasSeen self.new.bytes self.new.seen.items) }
+            (WasSeen self.new.bytes self.new.seen.items) }
 
         // It keeps what it saw.
         ensures told { OnOk result (WasSeen self.new.bytes self.new.seen.items
-              (Some (drop self.old.at self.old.bytes)) (Some sink.now.taken)) }
+            (Some (drop self.old.at self.old.bytes)) (Some sink.now.taken)) }
     {
         let Ok(out) = Text::from_slice(self.alloc, sink.written()) else {
             self.faults = self.faults.saturating_add(1);

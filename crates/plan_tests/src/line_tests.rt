@@ -55,7 +55,7 @@ fn between(alloc: Global) -> Result<Cond, Memory>
 fn unnoted(alloc: Global) -> Result<Cond, Memory>
     ensures { IfOk result (λ cond. condition cond ≡ Not
         (Exists (record { 0 = 1 }) Notes
-            (All (Plain (Numbers (Field (record { 0 = 1 }) DocOf) Eq (Field (record { 0 = 0 }) Id)))
+        (All (Plain (Numbers (Field (record { 0 = 1 }) DocOf) Eq (Field (record { 0 = 0 }) Id)))
         (NowBefore (record { base = B.Arrival (record { 0 = 1 }); plus = pos 5 }))))) }
 {
     let on = Cond::Plain(Atom::Numbers(
@@ -108,7 +108,8 @@ fn a_row_that_is_missing_has_its_own_line(rt: HostRuntime) -> Result<(), Memory>
     assert_eq!(rt;
         lines.as_slice()[0].as_slice(),
         b"OVER m: DOC AT m.ts WHERE NOT EXISTS (v1: NOTE WHERE v1.ts <= m.ts AND (v1.doc = m.id \
-        AND m.ts < v1.ts + 5))".as_slice()
+        AND m.ts < v1.ts + 5))"
+            .as_slice()
     );
     assert_eq!(rt;
         lines.as_slice()[1].as_slice(),

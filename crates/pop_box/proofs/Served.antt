@@ -84,19 +84,19 @@ pub letters-served-as : (status : ℕ) (letters letters' : List Letter) (t : Tab
     (left left' out out' : Option (List ℕ))
     → user ≡ user' → name ≡ name' → secret ≡ secret' → letters' ≡ letters
     → Some letters ≡ letters_in user name t → IsSession status → LettersEnd status user secret letters' left left' out out'
-        → LettersServed status (letters_in user' name' t) user' secret' left left' out out'
+    → LettersServed status (letters_in user' name' t) user' secret' left left' out out'
 letters-served-as status letters letters' t user user' name name' secret secret' left left' out out' u n s same is session ends =
     subst (λ x. LettersServed status (letters_in user' name' t) user' x left left' out out') s
     (subst (λ x. LettersServed status (letters_in user' x t) user' secret left left' out out') n
     (subst (λ x. LettersServed status (letters_in x name t) x secret left left' out out') u
     (letters-served status letters (letters_in user name t) user secret left left' out out' is session
-      (subst (λ x. LettersEnd status user secret x left left' out out') same ends))))
+    (subst (λ x. LettersEnd status user secret x left left' out out') same ends))))
 
 -- without a box of this user and name
 pub none-served-as : (status : ℕ) (t : Tables) (user user' name name' secret : List ℕ) (left out out' : Option (List ℕ))
     → user ≡ user' → name ≡ name'
     → None ≡ letters_in user name t → (status ≡ 9) ⊎ (status ≡ 4) → BoxLine status out out'
-        → LettersServed status (letters_in user' name' t) user' secret left left out out'
+    → LettersServed status (letters_in user' name' t) user' secret left left out out'
 none-served-as status t user user' name name' secret left out out' u n is statuses line =
     subst (λ x. LettersServed status (letters_in user' x t) user' secret left left out out') n
     (subst (λ x. LettersServed status (letters_in x name t) x secret left left out out') u
@@ -124,7 +124,7 @@ pub served-words : (status : ℕ) (t : Tables) (user user' name name' secret sec
     (versions : ℤ → Type 0)
     → user ≡ user' → name ≡ name' → secret ≡ secret'
     → Served status (letters_in user name t) user secret left left' out out' versions
-        → Served status (letters_in user' name' t) user' secret' left left' out out' versions
+    → Served status (letters_in user' name' t) user' secret' left left' out out' versions
 served-words status t user user' name name' secret secret' left left' out out' versions u n s served =
     subst (λ x. Served status (letters_in user' name' t) user' x left left' out out' versions) s
     (subst (λ x. Served status (letters_in user' x t) user' secret left left' out out' versions) n
@@ -137,7 +137,7 @@ pub took-quit : (status : ℕ) (letters : List Letter) (user user' secret secret
 took-quit status letters user user' secret secret' left left' out out' u s ends is =
     let quit = ends.quit is in
     subst (λ x. TookQuit user' x left left') s
-        (subst (λ x. TookQuit x secret left left') u (record { taken = quit.taken; quit = quit.quit }))
+    (subst (λ x. TookQuit x secret left left') u (record { taken = quit.taken; quit = quit.quit }))
 
 -- a QUIT of the words' own user and secret
 pub took-quit-words : (status : ℕ) (user user' secret secret' : List ℕ) (left left' : Option (List ℕ))
@@ -155,17 +155,17 @@ served-not-two status one is = grind (arith, one, is)
 
 up-as : (letters letters' : List Letter) (found : Option (List Letter)) (user secret : List ℕ) (left left' out out' : Option (List ℕ))
     → letters' ≡ letters → Some letters ≡ found → IsSessionUpToDate user secret letters' left left' out out'
-        → IsBoxUpToDate found user secret left left' out out'
+    → IsBoxUpToDate found user secret left left' out out'
 up-as letters letters' found user secret left left' out out' same is now =
     subst (λ f. IsBoxUpToDate f user secret left left' out out') is
-      (subst (λ x. IsSessionUpToDate user secret x left left' out out') same now)
+    (subst (λ x. IsSessionUpToDate user secret x left left' out out') same now)
 
 -- when the source was asked, with the words' own user, box and secret
 pub asked-words : (t : Tables) (user user' name name' secret secret' : List ℕ) (left out : Option (List ℕ))
     (asked asked' : Option (List ℕ) → Option (List ℕ) → Type 0)
     → user ≡ user' → name ≡ name' → secret ≡ secret'
     → AskedUpToDate (letters_in user name t) user secret left out asked asked'
-        → AskedUpToDate (letters_in user' name' t) user' secret' left out asked asked'
+    → AskedUpToDate (letters_in user' name' t) user' secret' left out asked asked'
 asked-words t user user' name name' secret secret' left out asked asked' u n s asks =
     subst (λ x. AskedUpToDate (letters_in user' name' t) user' x left out asked asked') s
     (subst (λ x. AskedUpToDate (letters_in user' x t) user' secret left out asked asked') n
@@ -176,9 +176,9 @@ pub asked-letters : (letters letters' : List Letter) (t : Tables) (user user' na
     (left out : Option (List ℕ)) (asked asked' : Option (List ℕ) → Option (List ℕ) → Type 0)
     → user ≡ user' → name ≡ name' → secret ≡ secret' → letters' ≡ letters → Some letters ≡ letters_in user name t
     → AskedOnlyWhen (λ l o. IsSessionUpToDate user secret letters' left l out o) asked asked'
-        → AskedUpToDate (letters_in user' name' t) user' secret' left out asked asked'
+    → AskedUpToDate (letters_in user' name' t) user' secret' left out asked asked'
 asked-letters letters letters' t user user' name name' secret secret' left out asked asked' u n s same is asks =
     asked-words t user user' name name' secret secret' left out asked asked' u n s
     (asked_as (λ l o. IsSessionUpToDate user secret letters' left l out o)
-      (λ l o. IsBoxUpToDate (letters_in user name t) user secret left l out o) asked asked'
+    (λ l o. IsBoxUpToDate (letters_in user name t) user secret left l out o) asked asked'
     (λ l o now. up-as letters letters' (letters_in user name t) user secret left l out o same is now) asks)

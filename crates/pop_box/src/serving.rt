@@ -50,7 +50,7 @@ fn serve_with<S: Peer<K>, K: Sink, L: Ledger>(
     requires short { HasShortTexts engine }
     ensures session { OverSound engine (λ t.
         LettersServed result (letters_in asked.now.user asked.now.name t)
-            asked.now.user asked.now.secret
+        asked.now.user asked.now.secret
         (S.left source.old) (S.left source.new) (K.out sink.old) (K.out sink.new)) }
     ensures prompt { OverSound engine (λ t.
         AskedUpToDate (letters_in asked.now.user asked.now.name t) asked.now.user asked.now.secret
@@ -94,7 +94,7 @@ fn serve_box<S: Peer<K>, K: Sink, P: Keeper, L: Ledger>(
     ensures session { FromStore P.Keeper keeper.old keeper.new (λ t.
         Served result (letters_in asked.now.user asked.now.name t) asked.now.user asked.now.secret
         (S.left source.old) (S.left source.new) (K.out sink.old) (K.out sink.new)
-            (P.has_version keeper.old)) }
+        (P.has_version keeper.old)) }
     ensures prompt { FromStore P.Keeper keeper.old keeper.new (λ t.
         AskedUpToDate (letters_in asked.now.user asked.now.name t) asked.now.user asked.now.secret
         (S.left source.old) (K.out sink.old) (S.was_asked source.old) (S.was_asked source.new)) }
@@ -113,7 +113,7 @@ fn serve_box<S: Peer<K>, K: Sink, P: Keeper, L: Ledger>(
     ensures ended { result ≡ 1 → IsAtEnd (S.left source.new) }
     ensures complete { IfCalm (S.faults source.old) (S.faults source.new)
         (K.faults sink.old) (K.faults sink.new) (P.faults keeper.old) (P.faults keeper.new)
-            (IsUndisturbedSession result) }
+        (IsUndisturbedSession result) }
     ensures statuses { (result ≤ 9) × (result ≢ 2) }
     ensures path { IsPlacedUnless (result ≡ 7) (P.path keeper.old) (P.path keeper.new)
         asked.now.path }
@@ -165,27 +165,27 @@ pub fn serve<S: Peer<K>, K: Sink, P: Keeper, L: Ledger>(
     ensures faulty { (result ≡ 2) ⊎ ((result ≡ 7) ⊎ (faults_of pop_app words.now ≡ [])) }
     ensures nothing { result ≡ 2 →
         (keeper.new ≡ keeper.old)
-            × ((K.out sink.new ≡ K.out sink.old) × (S.left source.new ≡ S.left source.old)) }
+        × ((K.out sink.new ≡ K.out sink.old) × (S.left source.new ≡ S.left source.old)) }
     ensures path { IsPlacedBy result (P.path keeper.old) (P.path keeper.new)
         (pop_path_in words.now) }
     ensures named { (path : Option (List ℕ)) (user name secret : List ℕ)
         → IsPopWorded words.now path user name secret →
         (pop_path_in words.now ≡ path_or_default path) × ((user_in words.now ≡ user)
-              × ((box_in words.now ≡ name) × (secret_in words.now ≡ secret))) }
+        × ((box_in words.now ≡ name) × (secret_in words.now ≡ secret))) }
 
     // A box of a store that a session left: how it was served, by the status.
     ensures session { FromStore P.Keeper keeper.old keeper.new (λ t.
         Served result (letters_in (user_in words.now) (box_in words.now) t) (user_in words.now)
-            (secret_in words.now)
+        (secret_in words.now)
         (S.left source.old) (S.left source.new) (K.out sink.old) (K.out sink.new)
-            (P.has_version keeper.old)) }
+        (P.has_version keeper.old)) }
 
     // Over such a store, whenever the source was asked for more, the greeting and the replies to
     // all requests that were complete in the bytes taken so far were out, whole, and nothing else;
     // and no QUIT among them was accepted.
     ensures prompt { FromStore P.Keeper keeper.old keeper.new (λ t.
         AskedUpToDate (letters_in (user_in words.now) (box_in words.now) t) (user_in words.now)
-            (secret_in words.now)
+        (secret_in words.now)
         (S.left source.old) (K.out sink.old) (S.was_asked source.old) (S.was_asked source.new)) }
 
     // Whatever the store holds, its tables are unchanged, and, unless the keeper failed, its

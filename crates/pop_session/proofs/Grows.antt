@@ -32,15 +32,18 @@ replies-more : (user secret : List ℕ) (letters : List Letter) (phase : Phase) 
 replies-more user secret letters phase [] ss = (replies_to user secret letters phase ss, refl)
 replies-more user secret letters phase (r ∷ rs) ss =
     go (is_ended phase) (replies-more user secret letters (outcome_of user secret phase r).phase rs ss) where
-  go : (b : Bool) → (more : List ℕ) × (replies_to user secret letters (outcome_of user secret phase r).phase (rs ++ ss)
-        ≡ replies_to user secret letters (outcome_of user secret phase r).phase rs ++ more)
-      → (more : List ℕ) × ((if b then [] else pop_reply_bytes letters (outcome_of user secret phase r).reply
+      go : (b : Bool) → (more : List ℕ) × (replies_to user secret letters (outcome_of user secret phase r).phase (rs ++ ss)
+          ≡ replies_to user secret letters (outcome_of user secret phase r).phase rs ++ more)
+          → (more : List ℕ) × ((if b then [] else pop_reply_bytes letters (outcome_of user secret phase r).reply
           ++ replies_to user secret letters (outcome_of user secret phase r).phase (rs ++ ss)) ≡ (if b then [] else pop_reply_bytes letters
           (outcome_of user secret phase r).reply ++ replies_to user secret letters (outcome_of user secret phase r).phase rs) ++ more)
-  go true rest = ([], refl)
-  go false rest = (rest.0, ap (λ xs. pop_reply_bytes letters (outcome_of user secret phase r).reply ++ xs) rest.1
-        ∙ sym (append_assoc (pop_reply_bytes letters (outcome_of user secret phase r).reply)
-          (replies_to user secret letters (outcome_of user secret phase r).phase rs) rest.0))
+      go true rest = ([], refl)
+      go false rest = (
+        rest.0,
+        ap (λ xs. pop_reply_bytes letters (outcome_of user secret phase r).reply ++ xs) rest.1
+            ∙ sym (append_assoc (pop_reply_bytes letters (outcome_of user secret phase r).reply)
+            (replies_to user secret letters (outcome_of user secret phase r).phase rs) rest.0),
+      )
 
 pub replies-grow : RepliesGrow
 replies-grow a b user secret letters =

@@ -64,7 +64,7 @@ fits : (limit : ℕ) (bytes piece : List ℕ) (n room : ℕ)
     → length bytes ≤ limit → room ≡ min n (limit - length bytes) → take limit (bytes ++ take n piece) ≡ bytes ++ take room piece
 fits limit bytes piece n room le is =
     ap (λ k. take k (bytes ++ take n piece)) (whole (length bytes) le) ∙ take-append-add bytes (take n piece) (limit - length bytes)
-      ∙ ap (λ xs. bytes ++ xs) (two (limit - length bytes) n piece ∙ ap (λ k. take k piece) (sym is)) where
+    ∙ ap (λ xs. bytes ++ xs) (two (limit - length bytes) n piece ∙ ap (λ k. take k piece) (sym is)) where
       whole : (m : ℕ) → m ≤ limit → limit ≡ m + (limit - m)
       whole m le = omega arith
 
@@ -106,8 +106,12 @@ pub Answering-start : (left out : Option (List ℕ)) (f : List ℕ → List ℕ)
 unfolding Taking-start
 Answering-start left out f q none no_quit =
     answering left left 0 f f q q out out (Taking-start left) [] (take-none SESSION_LIMIT)
-    (record { replied = λ rest. ap (λ xs. xs ++ f rest) (sym none); quits = λ rest. refl; no_quit = no_quit;
-        written = subst (Appends out out) (sym none) (Appends-none out) })
+    (record {
+      replied = λ rest. ap (λ xs. xs ++ f rest) (sym none);
+      quits = λ rest. refl;
+      no_quit = no_quit;
+      written = subst (Appends out out) (sym none) (Appends-none out);
+    })
 
 -- replies to bytes, and to some after them
 joined : (f g h : List ℕ → List ℕ) (a b : List ℕ)
@@ -115,7 +119,7 @@ joined : (f g h : List ℕ → List ℕ) (a b : List ℕ)
     → f ((a ++ b) ++ rest) ≡ f (a ++ b) ++ h rest
 joined f g h a b one two rest =
     ap f (append_assoc a b rest) ∙ one (b ++ rest) ∙ ap (λ xs. f a ++ xs) (two rest) ∙ sym (append_assoc (f a) (g b) (h rest))
-      ∙ ap (λ xs. xs ++ h rest) (sym (one b))
+    ∙ ap (λ xs. xs ++ h rest) (sym (one b))
 
 -- the bytes that the session looks at, with one more piece
 looked : (left left' : Option (List ℕ)) (taken n room : ℕ) (piece : List ℕ)
@@ -137,8 +141,8 @@ few-now taken le = omega arith
 piece-split : (n room : ℕ) (piece : List ℕ) → room ≤ n → take n piece ≡ take room piece ++ drop room (take n piece)
 piece-split n room piece le = sym (take-append-drop room (take n piece))
     ∙ ap (λ xs. xs ++ drop room (take n piece)) (shorter n room piece le) where
-  shorter : (n k : ℕ) (xs : List ℕ) → k ≤ n → take k (take n xs) ≡ take k xs
-  shorter n k xs le = grind (arith, common_steps)
+      shorter : (n k : ℕ) (xs : List ℕ) → k ≤ n → take k (take n xs) ≡ take k xs
+      shorter n k xs le = grind (arith, common_steps)
 
 room-le : (n k room : ℕ) → room ≡ min n k → room ≤ n
 room-le n k room is = grind (arith, is)
@@ -148,15 +152,15 @@ pub Answering-more : (left mid new : Option (List ℕ)) (taken n room : ℕ) (pi
     (out out1 out2 : Option (List ℕ))
     → Answering left mid taken f g q p out out1 → taken ≤ SESSION_LIMIT → n ≤ length piece
     → Consumes mid new (take n piece) → room ≡ min n (SESSION_LIMIT - taken) → Appends out1 out2 (g (take room piece))
-        → ((rest : List ℕ) → g (take room piece ++ rest) ≡ g (take room piece) ++ h rest)
+    → ((rest : List ℕ) → g (take room piece ++ rest) ≡ g (take room piece) ++ h rest)
     → ((rest : List ℕ) → p (take room piece ++ rest) ≡ r rest) → (b : Bool) → b ≡ false → b ≡ p (take room piece)
-        → Answering left new (taken + n) f h q r out out2
+    → Answering left new (taken + n) f h q r out out2
 unfolding Taking-more
 Answering-more left mid new taken n room piece f g h q p r out out1 out2 before le within took is put next quits b none no_quit =
     let s = seen-now left mid taken f g q p out out1 before le in
     let bytes = before.taking.bytes in
     answering left new (taken + n) f h q r out out2 (Taking-more left mid new taken n piece before.taking within took)
-      (bytes ++ take room piece) (looked left mid taken n room piece before.taking le is)
+    (bytes ++ take room piece) (looked left mid taken n room piece before.taking le is)
     (record {
       replied = joined f g h bytes (take room piece) s.replied next;
       quits = λ rest. ap q (append_assoc bytes (take room piece) rest) ∙ s.quits (take room piece ++ rest) ∙ quits rest;
@@ -170,7 +174,7 @@ pub Answering-quit : (left mid new : Option (List ℕ)) (taken n room : ℕ) (pi
     (out out1 out2 : Option (List ℕ))
     → Answering left mid taken f g q p out out1 → taken ≤ SESSION_LIMIT → n ≤ length piece
     → n ≤ PIECE → Consumes mid new (take n piece) → room ≡ min n (SESSION_LIMIT - taken) → Appends out1 out2 (g (take room piece))
-        → ((rest : List ℕ) → g (take room piece ++ rest) ≡ g (take room piece) ++ h rest)
+    → ((rest : List ℕ) → g (take room piece ++ rest) ≡ g (take room piece) ++ h rest)
     → ((rest : List ℕ) → h rest ≡ []) → (b : Bool) → b ≡ true → b ≡ p (take room piece) → QuitEnd f q left new out out2
 unfolding Taking-more taken-of
 Answering-quit left mid new taken n room piece f g h q p out out1 out2 before le within few took is put next over b one quit =
@@ -179,10 +183,10 @@ Answering-quit left mid new taken n room piece f g h q p out out1 out2 before le
     let beyond = drop room (take n piece) in
     let all : bytes ++ take n piece ≡ (bytes ++ take room piece) ++ beyond =
     ap (λ xs. bytes ++ xs) (piece-split n room piece (room-le n (SESSION_LIMIT - taken) room is))
-      ∙ sym (append_assoc bytes (take room piece) beyond) in
+    ∙ sym (append_assoc bytes (take room piece) beyond) in
     let none : f ((bytes ++ take room piece) ++ beyond) ≡ f bytes ++ g (take room piece) =
     joined f g h bytes (take room piece) s.replied next beyond ∙ ap (λ xs. f (bytes ++ take room piece) ++ xs) (over beyond)
-      ∙ append-nil (f (bytes ++ take room piece)) ∙ s.replied (take room piece) in
+    ∙ append-nil (f (bytes ++ take room piece)) ∙ s.replied (take room piece) in
     record {
       taken = taken-of left new (taken + n) (Taking-more left mid new taken n piece before.taking within took) (few-taken taken n le few);
       quit = ap q (looked left mid taken n room piece before.taking le is) ∙ s.quits (take room piece) ∙ sym quit ∙ one;
@@ -196,8 +200,11 @@ Answering-read left mid new taken f g q p out out1 before le same =
     let s = seen-now left mid taken f g q p out out1 before le in
     let fits : length before.taking.bytes ≤ SESSION_LIMIT = subst (λ n. n ≤ SESSION_LIMIT) before.taking.count le in
     record {
-      taken = record { bytes = before.taking.bytes; taken = Consumes-keeps left mid new before.taking.bytes before.taking.consumed same;
-            few = few-now (length before.taking.bytes) fits };
+      taken = record {
+        bytes = before.taking.bytes;
+        taken = Consumes-keeps left mid new before.taking.bytes before.taking.consumed same;
+        few = few-now (length before.taking.bytes) fits;
+      };
       fits = fits;
       no_quit = s.no_quit;
       written = s.written;
@@ -214,7 +221,7 @@ pub Answering-asked : (left mid : Option (List ℕ)) (taken : ℕ) (f g : List �
     → AskedOnlyWhen (λ l o. (l ≡ mid) × (o ≡ out1)) before asked' → AskedOnlyWhen (λ l o. OpenEnd f q left l out o) asked asked'
 Answering-asked left mid taken f g q p out out1 asked before asked' so_far now le once =
     asked_more (λ l o. OpenEnd f q left l out o) mid out1 asked before asked' so_far
-      (Answering-read left mid mid taken f g q p out out1 now le (Keeps-same mid)) once
+    (Answering-read left mid mid taken f g q p out out1 now le (Keeps-same mid)) once
 
 -- status 1
 pub Answering-end : (left mid new : Option (List ℕ)) (taken : ℕ) (f g : List ℕ → List ℕ) (q p : List ℕ → Bool) (out out1 : Option (List ℕ))
@@ -223,8 +230,12 @@ Answering-end left mid new taken f g q p out out1 before le took =
     let s = seen-now left mid taken f g q p out out1 before le in
     let fits : length before.taking.bytes ≤ SESSION_LIMIT = subst (λ n. n ≤ SESSION_LIMIT) before.taking.count le in
     record {
-      taken = record { bytes = before.taking.bytes; taken = subst (Consumes left new) (append-nil before.taking.bytes) (Consumes-more left
-              mid new before.taking.bytes [] before.taking.consumed took); few = few-now (length before.taking.bytes) fits };
+      taken = record {
+        bytes = before.taking.bytes;
+        taken = subst (Consumes left new) (append-nil before.taking.bytes) (Consumes-more left
+            mid new before.taking.bytes [] before.taking.consumed took);
+        few = few-now (length before.taking.bytes) fits;
+      };
       fits = fits;
       no_quit = s.no_quit;
       written = s.written;
@@ -260,19 +271,19 @@ front-before : (bytes last : List ℕ)
 front-before bytes last few = sym (take-append-drop (length (bytes ++ last) - PIECE) bytes)
     ∙ ap (λ xs. xs ++ drop (length (bytes ++ last) - PIECE) bytes)
     (sym (same (length (bytes ++ last) - PIECE) (le bytes last few (length-append bytes last)))) where
-  same : (k : ℕ) → k ≤ length bytes → take k (bytes ++ last) ≡ take k bytes
-  same k le = grind (arith, common_steps)
+      same : (k : ℕ) → k ≤ length bytes → take k (bytes ++ last) ≡ take k bytes
+      same k le = grind (arith, common_steps)
 
-  le : (bytes last : List ℕ) → length last ≤ PIECE → length (bytes ++ last) ≡ length bytes + length last
-      → length (bytes ++ last) - PIECE ≤ length bytes
-  le bytes last few e = omega (arith, e, few)
+      le : (bytes last : List ℕ) → length last ≤ PIECE → length (bytes ++ last) ≡ length bytes + length last
+          → length (bytes ++ last) - PIECE ≤ length bytes
+      le bytes last few e = omega (arith, e, few)
 
 -- status 4
 pub Answering-cut : (left mid new : Option (List ℕ)) (taken n room : ℕ) (piece : List ℕ) (f g : List ℕ → List ℕ) (q p : List ℕ → Bool)
     (out out1 out2 : Option (List ℕ)) (failed : PutFailed)
     → Grows f → Answering left mid taken f g q p out out1 → taken ≤ SESSION_LIMIT
     → n ≤ length piece → n ≤ PIECE → Consumes mid new (take n piece) → room ≡ min n (SESSION_LIMIT - taken)
-        → TookSome 0 out1 out2 (g (take room piece)) failed → PutEnd f q left new out out2 []
+    → TookSome 0 out1 out2 (g (take room piece)) failed → PutEnd f q left new out out2 []
 unfolding Taking-more taken-of
 Answering-cut left mid new taken n room piece f g q p out out1 out2 failed grows before le within few took is cut =
     let s = seen-now left mid taken f g q p out out1 before le in
@@ -344,15 +355,23 @@ greeted-ends f h q r left new out out1 out2 first status replies quits before en
   read = λ is. opened (ends.read is);
   put = λ is. cut (ends.put is);
   long = λ is. let end = ends.long is in
-      record { long = end.long; no_quit = quits (take SESSION_LIMIT end.long.taken.bytes) ∙ end.no_quit;
-            written = put (take SESSION_LIMIT end.long.taken.bytes) end.written };
+      record {
+        long = end.long;
+        no_quit = quits (take SESSION_LIMIT end.long.taken.bytes) ∙ end.no_quit;
+        written = put (take SESSION_LIMIT end.long.taken.bytes) end.written;
+      };
 } where
   put : (bytes : List ℕ) → Appends out1 out2 (f bytes) → Appends out out2 (h bytes)
   put bytes after = subst (Appends out out2) (sym (replies bytes)) (Appends-more out out1 out2 first (f bytes) before after)
 
   opened : OpenEnd f q left new out1 out2 → OpenEnd h r left new out out2
-  opened end = record { taken = end.taken; fits = end.fits; no_quit = quits end.taken.bytes ∙ end.no_quit; written =
-        subst (Appends out out2) (sym (replies end.taken.bytes)) (Appends-more out out1 out2 first (f end.taken.bytes) before end.written) }
+  opened end = record {
+    taken = end.taken;
+    fits = end.fits;
+    no_quit = quits end.taken.bytes ∙ end.no_quit;
+    written =
+        subst (Appends out out2) (sym (replies end.taken.bytes)) (Appends-more out out1 out2 first (f end.taken.bytes) before end.written);
+  }
 
   cut : PutEnd f q left new out1 out2 [] → PutEnd h r left new out out2 first
   cut end =
@@ -360,8 +379,11 @@ greeted-ends f h q r left new out out1 out2 first status replies quits before en
         taken = end.taken;
         put = first ++ end.put;
         written = Appends-more out out1 out2 first end.put before end.written;
-        front = record { rest = end.front.rest; is = replies end.taken.bytes ∙ ap (λ xs. first ++ xs) end.front.is
-              ∙ sym (append_assoc first end.put end.front.rest) };
+        front = record {
+          rest = end.front.rest;
+          is = replies end.taken.bytes ∙ ap (λ xs. first ++ xs) end.front.is
+              ∙ sym (append_assoc first end.put end.front.rest);
+        };
         unread = λ no. absurd (no (record { rest = end.put; is = refl }));
         prompt = λ _. record {
           rest = early.rest;
@@ -376,12 +398,17 @@ pub greeted-asks : (f h : List ℕ → List ℕ) (q r : List ℕ → Bool) (left
     (asked asked' : Option (List ℕ) → Option (List ℕ) → Type 0)
     → ((bytes : List ℕ) → h bytes ≡ first ++ f bytes) → ((bytes : List ℕ) → r bytes ≡ q bytes)
     → Appends out out1 first → AskedOnlyWhen (λ l o. OpenEnd f q left l out1 o) asked asked'
-        → AskedOnlyWhen (λ l o. OpenEnd h r left l out o) asked asked'
+    → AskedOnlyWhen (λ l o. OpenEnd h r left l out o) asked asked'
 greeted-asks f h q r left out out1 first asked asked' replies quits before asks =
     asked_as (λ l o. OpenEnd f q left l out1 o) (λ l o. OpenEnd h r left l out o) asked asked' opened asks where
-  opened : (l o : Option (List ℕ)) → OpenEnd f q left l out1 o → OpenEnd h r left l out o
-  opened l o end = record { taken = end.taken; fits = end.fits; no_quit = quits end.taken.bytes ∙ end.no_quit; written =
-        subst (Appends out o) (sym (replies end.taken.bytes)) (Appends-more out out1 o first (f end.taken.bytes) before end.written) }
+      opened : (l o : Option (List ℕ)) → OpenEnd f q left l out1 o → OpenEnd h r left l out o
+      opened l o end = record {
+        taken = end.taken;
+        fits = end.fits;
+        no_quit = quits end.taken.bytes ∙ end.no_quit;
+        written =
+            subst (Appends out o) (sym (replies end.taken.bytes)) (Appends-more out out1 o first (f end.taken.bytes) before end.written);
+      }
 
 -- the greeting was cut off
 pub greeting-cut : (h : List ℕ → List ℕ) (r : List ℕ → Bool) (left out out' : Option (List ℕ)) (first : List ℕ) (failed : PutFailed)
@@ -408,7 +435,7 @@ begun-replies : (s : PopSessionState)
     → replies_from s rest ≡ replies_to s.user s.secret s.letters Authorization (requests rest)
 begun-replies s front phase rest =
     ap (λ xs. replies_to s.user s.secret s.letters s.phase (requests (xs ++ rest))) front
-      ∙ ap (λ p. replies_to s.user s.secret s.letters p (requests rest)) phase
+    ∙ ap (λ p. replies_to s.user s.secret s.letters p (requests rest)) phase
 
 pub begun-none : (s : PopSessionState) → s.front ≡ [] → s.phase ≡ Authorization → replies_from s [] ≡ []
 begun-none s front phase = begun-replies s front phase []
@@ -416,13 +443,15 @@ begun-none s front phase = begun-replies s front phase []
 pub begun-open : (s : PopSessionState) → s.front ≡ [] → s.phase ≡ Authorization → quits_from s [] ≡ false
 begun-open s front phase =
     ap (λ xs. is_ended (phase_after s.user s.secret s.phase (requests (xs ++ [])))) front
-      ∙ ap (λ p. is_ended (phase_after s.user s.secret p (requests []))) phase
+    ∙ ap (λ p. is_ended (phase_after s.user s.secret p (requests []))) phase
 
 -- the replies of a session that begins grow with the bytes
 pub begun-grows : (s : PopSessionState) → s.front ≡ [] → s.phase ≡ Authorization → RepliesGrow → Grows (replies_from s)
 begun-grows s front phase law a b =
     let grown = law a b s.user s.secret s.letters in
-    let from : List ℕ → List ℕ = λ bytes. replies_to s.user s.secret s.letters Authorization (requests bytes) in
-    (grown.0, begun-replies s front phase (a ++ b)
-      ∙ cancel greeting (from (a ++ b)) (from a ++ grown.0) (grown.1 ∙ append_assoc greeting (from a) grown.0)
-      ∙ ap (λ xs. xs ++ grown.0) (sym (begun-replies s front phase a)))
+    let from : List ℕ → List ℕ = λ bytes. replies_to s.user s.secret s.letters Authorization (requests bytes) in (
+      grown.0,
+      begun-replies s front phase (a ++ b)
+          ∙ cancel greeting (from (a ++ b)) (from a ++ grown.0) (grown.1 ∙ append_assoc greeting (from a) grown.0)
+          ∙ ap (λ xs. xs ++ grown.0) (sym (begun-replies s front phase a)),
+    )

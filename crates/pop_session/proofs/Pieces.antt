@@ -40,12 +40,12 @@ Same f = (a b more : List ℕ) (rest : List (List ℕ)) → 512 < length a → 5
 same-replies : (user secret : List ℕ) (letters : List Letter) (phase : Phase) → Same (replies_to user secret letters phase)
 same-replies user secret letters phase a b more rest la lb =
     ap (λ o. if is_ended phase then [] else pop_reply_bytes letters o.reply ++ replies_to user secret letters o.phase rest)
-      (outcome-long user secret phase a more la ∙ sym (outcome-long user secret phase b more lb))
+    (outcome-long user secret phase a more la ∙ sym (outcome-long user secret phase b more lb))
 
 same-phases : (user secret : List ℕ) (phase : Phase) → Same (phase_after user secret phase)
 same-phases user secret phase a b more rest la lb =
     ap (λ o. if is_ended phase then phase else phase_after user secret o.phase rest)
-      (outcome-long user secret phase a more la ∙ sym (outcome-long user secret phase b more lb))
+    (outcome-long user secret phase a more la ∙ sym (outcome-long user secret phase b more lb))
 
 long-same : {A : Type 0} (f : List (List ℕ) → A)
     → Same f → (a b rest : List ℕ) → NoEnd a → NoEnd b → 512 < length a → 512 < length b
@@ -78,7 +78,7 @@ grown-same f same front bytes rest nf nb = go (cases_lt (513 - length front) (le
 pub grown-replies : (user secret : List ℕ) (letters : List Letter) (phase : Phase) (front bytes rest : List ℕ)
     → NoEnd front → NoEnd bytes
     → replies_to user secret letters phase (requests (front ++ (bytes ++ rest)))
-        ≡ replies_to user secret letters phase (requests (request_grown front bytes ++ rest))
+    ≡ replies_to user secret letters phase (requests (request_grown front bytes ++ rest))
 grown-replies user secret letters phase front bytes rest nf nb =
     ap (λ xs. replies_to user secret letters phase (requests xs)) (sym (append_assoc front bytes rest))
     ∙ grown-same (replies_to user secret letters phase) (same-replies user secret letters phase) front bytes rest nf nb
@@ -86,7 +86,7 @@ grown-replies user secret letters phase front bytes rest nf nb =
 pub grown-phases : (user secret : List ℕ) (phase : Phase) (front bytes rest : List ℕ)
     → NoEnd front → NoEnd bytes
     → phase_after user secret phase (requests (front ++ (bytes ++ rest)))
-        ≡ phase_after user secret phase (requests (request_grown front bytes ++ rest))
+    ≡ phase_after user secret phase (requests (request_grown front bytes ++ rest))
 grown-phases user secret phase front bytes rest nf nb =
     ap (λ xs. phase_after user secret phase (requests xs)) (sym (append_assoc front bytes rest))
     ∙ grown-same (phase_after user secret phase) (same-phases user secret phase) front bytes rest nf nb
@@ -94,9 +94,9 @@ grown-phases user secret phase front bytes rest nf nb =
 -- a piece up to its first LF
 with_end : (piece : List ℕ) (n : ℕ) → n ≡ position_or_len is_end piece → n < length piece → take (n + 1) piece ≡ take n piece ++ 10 ∷ []
 with_end piece n e lt = take_more piece n 0 lt ∙ ap (λ x. take n piece ++ x ∷ []) (at_end (get_or piece n 0)
-      (subst (λ k. is_end (get_or piece k 0) ≡ true) (sym e) (passes_at_first is_end piece 0 (rw (sym e) lt)))) where
-  at_end : (x : ℕ) → is_end x ≡ true → x ≡ 10
-  at_end x e = grind arith
+    (subst (λ k. is_end (get_or piece k 0) ≡ true) (sym e) (passes_at_first is_end piece 0 (rw (sym e) lt)))) where
+      at_end : (x : ℕ) → is_end x ≡ true → x ≡ 10
+      at_end x e = grind arith
 
 sides : (piece rest : List ℕ) (n : ℕ)
     → n ≡ position_or_len is_end piece → n < length piece → take (n + 1) piece ++ rest ≡ take n piece ++ 10 ∷ rest
@@ -106,33 +106,33 @@ sides piece rest n e lt = ap (λ xs. xs ++ rest) (with_end piece n e lt) ∙ app
 pub cut-replies : (user secret : List ℕ) (letters : List Letter) (phase : Phase) (front piece rest : List ℕ) (n : ℕ)
     → NoEnd front → n ≡ position_or_len is_end piece → n < length piece → is_ended phase ≡ false
     → replies_to user secret letters phase (requests (front ++ (take (n + 1) piece ++ rest)))
-        ≡ pop_reply_bytes letters (outcome_of user secret phase (request_grown front (take n piece))).reply
-        ++ replies_to user secret letters (outcome_of user secret phase (request_grown front (take n piece))).phase (requests rest)
+    ≡ pop_reply_bytes letters (outcome_of user secret phase (request_grown front (take n piece))).reply
+    ++ replies_to user secret letters (outcome_of user secret phase (request_grown front (take n piece))).phase (requests rest)
 cut-replies user secret letters phase front piece rest n none e lt going =
     ap (λ xs. replies_to user secret letters phase (requests (front ++ xs))) (sides piece rest n e lt)
     ∙ grown-replies user secret letters phase front (take n piece) (10 ∷ rest) none (NoEnd-front piece n e)
     ∙ ap (replies_to user secret letters phase)
-        (requests-line (request_grown front (take n piece)) rest (NoEnd-grown front (take n piece) none (NoEnd-front piece n e)))
+    (requests-line (request_grown front (take n piece)) rest (NoEnd-grown front (take n piece) none (NoEnd-front piece n e)))
     ∙ ap (λ b. if b then [] else pop_reply_bytes letters (outcome_of user secret phase (request_grown front (take n piece))).reply
-          ++ replies_to user secret letters (outcome_of user secret phase (request_grown front (take n piece))).phase (requests rest)) going
+    ++ replies_to user secret letters (outcome_of user secret phase (request_grown front (take n piece))).phase (requests rest)) going
 
 pub cut-phases : (user secret : List ℕ) (phase : Phase) (front piece rest : List ℕ) (n : ℕ)
     → NoEnd front → n ≡ position_or_len is_end piece → n < length piece → is_ended phase ≡ false
     → phase_after user secret phase (requests (front ++ (take (n + 1) piece ++ rest)))
-        ≡ phase_after user secret (outcome_of user secret phase (request_grown front (take n piece))).phase (requests rest)
+    ≡ phase_after user secret (outcome_of user secret phase (request_grown front (take n piece))).phase (requests rest)
 cut-phases user secret phase front piece rest n none e lt going =
     ap (λ xs. phase_after user secret phase (requests (front ++ xs))) (sides piece rest n e lt)
     ∙ grown-phases user secret phase front (take n piece) (10 ∷ rest) none (NoEnd-front piece n e)
     ∙ ap (phase_after user secret phase)
-        (requests-line (request_grown front (take n piece)) rest (NoEnd-grown front (take n piece) none (NoEnd-front piece n e)))
+    (requests-line (request_grown front (take n piece)) rest (NoEnd-grown front (take n piece) none (NoEnd-front piece n e)))
     ∙ ap (λ b. if b then phase
-          else phase_after user secret (outcome_of user secret phase (request_grown front (take n piece))).phase (requests rest)) going
+    else phase_after user secret (outcome_of user secret phase (request_grown front (take n piece))).phase (requests rest)) going
 
 -- the one reply to a piece up to its first LF
 pub cut-reply : (user secret : List ℕ) (letters : List Letter) (phase : Phase) (front piece : List ℕ) (n : ℕ)
     → NoEnd front → n ≡ position_or_len is_end piece → n < length piece → is_ended phase ≡ false
     → replies_to user secret letters phase (requests (front ++ take (n + 1) piece))
-        ≡ pop_reply_bytes letters (outcome_of user secret phase (request_grown front (take n piece))).reply
+    ≡ pop_reply_bytes letters (outcome_of user secret phase (request_grown front (take n piece))).reply
 cut-reply user secret letters phase front piece n none e lt going =
     ap (λ xs. replies_to user secret letters phase (requests (front ++ xs))) (sym (append-nil (take (n + 1) piece)))
     ∙ cut-replies user secret letters phase front piece [] n none e lt going

@@ -44,7 +44,7 @@ line-size : (p : List ℕ) → length (crlf_line (without_returns p)) ≤ length
 line-size p =
     let s = shorter p in
     let l : length (without_returns p ++ 13 ∷ 10 ∷ []) ≡ length (without_returns p) + 2 =
-        length-append (without_returns p) (13 ∷ 10 ∷ []) in
+    length-append (without_returns p) (13 ∷ 10 ∷ []) in
     omega arith
 
 abbrev all-lines : List (List ℕ) → List ℕ
@@ -60,7 +60,7 @@ parts-size (p ∷ []) = go (length p == 0) refl where
       let some : 0 < length p = grind (arith, e) in
       let s = line-size p in
       let l : length (crlf_line (without_returns p) ++ []) ≡ length (crlf_line (without_returns p)) + 0 =
-          length-append (crlf_line (without_returns p)) [] in
+      length-append (crlf_line (without_returns p)) [] in
       omega arith
 parts-size (p ∷ q ∷ ps) =
     let more = parts-size (q ∷ ps) in

@@ -39,7 +39,7 @@ open-put out bytes none = subst (λ xs. Appends out out xs) (sym none) (Appends-
 pub cut-next : (s : PopSessionState) (piece rest : List ℕ) (n : ℕ)
     → NoEnd s.front → n ≡ position_or_len is_end piece → n < length piece → is_ended s.phase ≡ false
     → replies_from s (take (n + 1) piece ++ rest)
-        ≡ open_reply (held s (take n piece)) ++ replies_from (answered (held s (take n piece))) rest
+    ≡ open_reply (held s (take n piece)) ++ replies_from (answered (held s (take n piece))) rest
 cut-next s piece rest n none e lt going = cut-replies s.user s.secret s.letters s.phase s.front piece rest n none e lt going
 
 pub cut-quits : (s : PopSessionState) (piece rest : List ℕ) (n : ℕ)
@@ -58,7 +58,7 @@ pub cut-failed : (s : PopSessionState) (piece : List ℕ) (n start : ℕ) (befor
     → TookSome start before after (open_reply (held s (take n piece))) failed → TookSome start before after (replies_from s piece) failed
 cut-failed s piece n start before after failed none e lt going cut =
     first-cut-of start before after (replies_from s piece) (open_reply (held s (take n piece)))
-      (replies_from (answered (held s (take n piece))) (drop (n + 1) piece)) failed
+    (replies_from (answered (held s (take n piece))) (drop (n + 1) piece)) failed
     (ap (replies_from s) (sym (take-append-drop (n + 1) piece)) ∙ cut-next s piece (drop (n + 1) piece) n none e lt going)
     cut
 
@@ -104,9 +104,13 @@ Taken-more old now new piece rest left used done done' before mid after taken is
   grow : (front : List ℕ) → Puts front [] 0 done before mid → Puts (front ++ replies_from now (take used rest)) [] 0 done' before after
   grow front puts =
       Puts-more (front ++ replies_from now (take used rest)) (replies_from now (take used rest)) [] (replies_from now (take used rest)) 0
-        done done' before mid after
-      (record { front = puts.front; split = ap (λ xs. xs ++ replies_from now (take used rest)) (puts.split ∙ append-nil puts.front);
-          count = puts.count; written = puts.written })
+      done done' before mid after
+      (record {
+        front = puts.front;
+        split = ap (λ xs. xs ++ replies_from now (take used rest)) (puts.split ∙ append-nil puts.front);
+        count = puts.count;
+        written = puts.written;
+      })
       (sym (append-nil (replies_from now (take used rest)))) count one
 
 -- nothing more is looked at
@@ -146,8 +150,8 @@ pub end-put : (old now : PopSessionState) (piece rest : List ℕ) (done : ℕ) (
     → Taken old now piece rest done before after → NoEnd now.front → IsOver now rest → Appends before after (replies_from old piece)
 end-put old now piece rest done before after taken none over =
     subst (λ xs. Appends before after xs)
-      (sym (taken-all old now piece rest done before after taken none over ∙ taken.puts.split ∙ append-nil taken.puts.front))
-      taken.puts.written
+    (sym (taken-all old now piece rest done before after taken none over ∙ taken.puts.split ∙ append-nil taken.puts.front))
+    taken.puts.written
 
 pub end-next : (old now : PopSessionState) (piece rest : List ℕ) (done : ℕ) (before after : Option (List ℕ))
     → Taken old now piece rest done before after → NoEnd now.front → IsOver now rest → (more : List ℕ)

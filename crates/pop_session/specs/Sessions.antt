@@ -92,8 +92,15 @@ AreShort letters = All IsWithinLimit letters
 -- a session that holds more bytes of its open request
 abbrev pub held : PopSessionState → List ℕ → PopSessionState
 held s bytes =
-    record { user = s.user; secret = s.secret; letters = s.letters; front = request_grown s.front bytes; phase = s.phase;
-        greeted = s.greeted; failed = s.failed }
+    record {
+      user = s.user;
+      secret = s.secret;
+      letters = s.letters;
+      front = request_grown s.front bytes;
+      phase = s.phase;
+      greeted = s.greeted;
+      failed = s.failed;
+    }
 
 -- the outcome of the open request, if an LF ends it here
 abbrev pub open_outcome : PopSessionState → Outcome
@@ -106,8 +113,15 @@ open_reply s = pop_reply_bytes s.letters (open_outcome s).reply
 -- a session after the reply to its open request
 abbrev pub answered : PopSessionState → PopSessionState
 answered s =
-    record { user = s.user; secret = s.secret; letters = s.letters; front = []; phase = (open_outcome s).phase; greeted = s.greeted;
-        failed = s.failed }
+    record {
+      user = s.user;
+      secret = s.secret;
+      letters = s.letters;
+      front = [];
+      phase = (open_outcome s).phase;
+      greeted = s.greeted;
+      failed = s.failed;
+    }
 
 -- the line has room for a row: no more than `+OK ` is before it
 abbrev pub HasRowRoom : ℕ → Type 0

@@ -40,7 +40,7 @@ fn answer_pieces<S: Peer<K>, K: Sink>(
         (K.out sink.old) (K.out sink.new) result [] }
     ensures prompt { AskedOnlyWhen (λ l o.
         OpenEnd (replies_from session.old) (quits_from session.old) (S.left source.old) l
-            (K.out sink.old) o)
+        (K.out sink.old) o)
         (S.was_asked source.old) (S.was_asked source.new) }
     ensures statuses { IsSession result }
     ensures read_cause { result ≡ 3 → Rose (S.faults source.old) (S.faults source.new) }

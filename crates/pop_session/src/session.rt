@@ -211,7 +211,7 @@ impl<'a> PopSession<'a> {
         ensures going { OnOk result ((self.new.greeted ≡ true) × (self.new.failed ≡ false)) }
         ensures err { IfErr result (λ failed.
             TookSome start (K.out sink.old) (K.out sink.new) (replies_from self.old piece.now)
-                failed) }
+            failed) }
         ensures cause { HasCause (K.faults sink.old) (K.faults sink.new) result }
         ensures failed { OnErr result (self.new.failed ≡ true) }
     {
@@ -243,7 +243,7 @@ impl<'a> PopSession<'a> {
             (Appends (K.out sink.old) (K.out sink.new) (replies_from self.old piece.now)) }
         ensures next { OnOk result ((rest : List ℕ) →
             replies_from self.old (piece.now ++ rest)
-                ≡ replies_from self.old piece.now ++ replies_from self.new rest) }
+            ≡ replies_from self.old piece.now ++ replies_from self.new rest) }
         ensures open { OnOk result (replies_from self.new [] ≡ []) }
         ensures quits { OnOk result
             ((rest : List ℕ) → quits_from self.old (piece.now ++ rest) ≡ quits_from self.new rest) }

@@ -95,9 +95,9 @@ pub doc_picked : (docs : List Doc) (o : Option ℤ) (k : ℕ) → o ≡ Some (po
     → map OfDoc (option_to_list (find (λ doc. nat_eq doc.num.0 k) docs)) ≡ filter (λ row. both Eq (field Id row) o) (map OfDoc docs)
 doc_picked docs o k e n =
     subst (λ z. map OfDoc (option_to_list (find (λ doc. nat_eq doc.num.0 k) docs))
-        ≡ filter (λ row. both Eq (field Id row) z) (map OfDoc docs)) (sym e)
+    ≡ filter (λ row. both Eq (field Id row) z) (map OfDoc docs)) (sym e)
     (ap (map OfDoc) (one_found k 1 docs n)
-      ∙ picked OfDoc (λ doc. nat_eq doc.num.0 k) (λ row. both Eq (field Id row) (Some (pos k))) docs (λ d. same_number d.num.0 k))
+    ∙ picked OfDoc (λ doc. nat_eq doc.num.0 k) (λ row. both Eq (field Id row) (Some (pos k))) docs (λ d. same_number d.num.0 k))
 
 -- none of these numbers is the one asked for
 none_numbered : (q : Row → Bool) (n : ℕ) (docs : List Doc) → Numbered doc_number n docs

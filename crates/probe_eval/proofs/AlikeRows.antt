@@ -143,7 +143,7 @@ module _ (some known : ℕ → Bool) (u : Var) where
   text_access : (make : TextExpr → Access) → ((e : TextExpr) → access_known some (make e) ≡ text_known some e)
       → (side : Option TextExpr) (access : Access)
       → ((e : TextExpr) → side ≡ Some e → (some u.0 ≡ true) × (text_known some e ≡ true)) → option_map make side ≡ Some access
-          → (some u.0 ≡ true) × (access_known some access ≡ true)
+      → (some u.0 ≡ true) × (access_known some access ≡ true)
   text_access make is side access n h =
       let m = made_of make side access h in
       let k = n m.0 m.1 in
@@ -152,7 +152,7 @@ module _ (some known : ℕ → Bool) (u : Var) where
   number_access : (make : NumExpr → Access) → ((e : NumExpr) → access_known some (make e) ≡ number_known some e)
       → (side : Option NumExpr) (access : Access)
       → ((e : NumExpr) → side ≡ Some e → (some u.0 ≡ true) × (number_known some e ≡ true)) → option_map make side ≡ Some access
-          → (some u.0 ≡ true) × (access_known some access ≡ true)
+      → (some u.0 ≡ true) × (access_known some access ≡ true)
   number_access make is side access n h =
       let m = made_of make side access h in
       let k = n m.0 m.1 in
@@ -224,16 +224,16 @@ module _ (T : Tables) (path : List Step) (b : ℤ) (v : Var) (known : ℕ → Bo
   open_same e f x step i a j =
       elim (settled step i a j) [
         | inl n ↦ ap (λ h. not (atom_known h a) || true_atom a e) x.held
-          ∙ ap (λ t. not (atom_held f a) || t) (sym (atom_is (is_other v) e f x.same a n))
+            ∙ ap (λ t. not (atom_held f a) || t) (sym (atom_is (is_other v) e f x.same a n))
         | inr m ↦ or_right (not (atom_held e a)) (true_atom a e) (atom_is known one e x.first a m.0 ∙ m.1)
-          ∙ sym (or_right (not (atom_held f a)) (true_atom a f) (atom_is known two f x.second a m.0 ∙ m.2))
+            ∙ sym (or_right (not (atom_held f a)) (true_atom a f) (atom_is known two f x.second a m.0 ∙ m.2))
       ]
 
   go_same : (e f : Env) → Alike e f → may_go path b e ≡ may_go path b f
   go_same e f x =
       ap (λ c. c && path_open path e) x.come
       ∙ ap (λ o. come_by b f && o) (all_same (λ (step : Step). are_open e step.guards) (λ (step : Step). are_open f step.guards) path
-            (λ step i. all_same (may_hold e) (may_hold f) step.guards (λ a j. open_same e f x step i a j)))
+      (λ step i. all_same (may_hold e) (may_hold f) step.guards (λ a j. open_same e f x step i a j)))
 
   held_by : (e f : Env) (u : Var) (row : Row) → is_held e ≡ is_held f → (k : ℕ) → is_held (bind u row e) k ≡ is_held (bind u row f) k
   held_by e f u row h k = go (nat_eq k u.0)
@@ -279,7 +279,8 @@ module _ (T : Tables) (path : List Step) (b : ℤ) (v : Var) (known : ℕ → Bo
           ap (λ o. access_known (is_other v) (unwrap_or o (whole k.step.table))) q ∙ elim (settled s.0 s.1 a.0 a.1) [
             | inl n ↦ (guard_names (is_other v) (is_held e) k.step.var kind.0 a.0 access a.2 n).1
             | inr m ↦
-              absurd (false≢true (sym k.fresh ∙ x.more k.step.var.0 (guard_names known (is_held e) k.step.var kind.0 a.0 access a.2 m.0).0))
+                absurd
+                (false≢true (sym k.fresh ∙ x.more k.step.var.0 (guard_names known (is_held e) k.step.var kind.0 a.0 access a.2 m.0).0))
           ]
 
   abbrev beside : List Reach → Env → Reach → Bool
@@ -288,10 +289,10 @@ module _ (T : Tables) (path : List Step) (b : ℤ) (v : Var) (known : ℕ → Bo
   rest_same : (order : List Reach) (e f : Env) → Alike e f → rest_of T path b order e ≡ rest_of T path b order f
   rest_same [] e f x =
       ap (λ m. m && all_or (nearest path e) (λ r. false)) (go_same e f x)
-        ∙ ap (λ o. may_go path b f && all_or o (λ r. false)) (nearest_held path e f x.held)
+      ∙ ap (λ o. may_go path b f && all_or o (λ r. false)) (nearest_held path e f x.held)
   rest_same (y ∷ rs) e f x =
       ap (λ m. m && all_or (nearest path e) (beside rs e)) (go_same e f x)
-        ∙ ap (λ z. may_go path b f && z) (go (λ d c a. rest_same rs d c a) (nearest path e) refl)
+      ∙ ap (λ z. may_go path b f && z) (go (λ d c a. rest_same rs d c a) (nearest path e) refl)
     where
       go : ((d c : Env) → Alike d c → rest_of T path b rs d ≡ rest_of T path b rs c) → (o : Option Reach) → nearest path e ≡ o
           → all_or (nearest path e) (beside rs e) ≡ all_or (nearest path f) (beside rs f)
@@ -302,7 +303,7 @@ module _ (T : Tables) (path : List Step) (b : ℤ) (v : Var) (known : ℕ → Bo
           ap (λ o. all_or o (beside rs e)) q
           ∙ (any_same _ _ (rows_by b r.access e T) (λ row. each (bind r.var row e) (bind r.var row f) (bound e f x r.var row fresh))
           ∙ ap (list_any (λ row. rest_of T path b rs (bind r.var row f)))
-              (sym (rows_same (is_other v) e f x.same b r.access (reach_names e f x r k) T)))
+          (sym (rows_same (is_other v) e f x.same b r.access (reach_names e f x r k) T)))
           ∙ sym (ap (λ o. all_or o (beside rs f)) (sym (nearest_held path e f x.held) ∙ q))
 
 module _ (T : Tables) (path : List Step) (b : ℤ) (env : Env) (v : Var) (apart : path_apart path env v ≡ true) where
@@ -322,7 +323,7 @@ module _ (T : Tables) (path : List Step) (b : ℤ) (env : Env) (v : Var) (apart 
   is_true row step a i j m o =
       let y : atom_held (bind v row env) a ≡ true = subst (λ h. atom_known h a ≡ true) (held_is row) m in
       let p : may_hold (bind v row env) a ≡ true = all_in (may_hold (bind v row env)) step.guards a
-          (all_in (λ (step : Step). are_open (bind v row env) step.guards) path step o i) j in
+      (all_in (λ (step : Step). are_open (bind v row env) step.guards) path step o i) j in
       rw y at p
 
   -- beside rows that may go on the rest exists or not alike
@@ -332,7 +333,7 @@ module _ (T : Tables) (path : List Step) (b : ℤ) (env : Env) (v : Var) (apart 
       let p = and_parts (come_by b (bind v row env)) (path_open path (bind v row env)) g in
       let q = and_parts (come_by b (bind v other env)) (path_open path (bind v other env)) h in
       rest_same T path b v (is_held (bind v row env)) (bind v row env) (bind v other env) (settled p.1 q.1) order (bind v row env)
-        (bind v other env) (record {
+      (bind v other env) (record {
         held = held_alike v row other env;
         more = λ k i. i;
         same = λ k i. bind_other k v other env (apart_from k i) ∙ sym (bind_other k v row env (apart_from k i));
@@ -348,7 +349,7 @@ module _ (T : Tables) (path : List Step) (b : ℤ) (env : Env) (v : Var) (apart 
           → AreSettled (is_held (bind v row env)) v path (bind v row env) (bind v other env)
       settled o u step i a j =
           let n : is_apart env v a ≡ true =
-              all_in (is_apart env v) step.guards a (all_in (λ (step : Step). are_apart env v step.guards) path step apart i) j in
+          all_in (is_apart env v) step.guards a (all_in (λ (step : Step). are_apart env v step.guards) path step apart i) j in
           elim (or_cases (atom_known (is_other v) a) (atom_known (is_held_or env v) a) n) [
             | inl y ↦ inl y
             | inr m ↦ inr (subst (λ h. atom_known h a ≡ true) (held_is row) m, is_true row step a i j m o, is_true other step a i j m u)

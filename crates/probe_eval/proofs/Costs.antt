@@ -60,7 +60,7 @@ module _ {A : Type 0} where
   filter_both p q (x ∷ xs) =
       elim (cases_Bool (p x)) [
         | inl e ↦
-          elim (cases_Bool (q x)) [ inl k ↦ rw (e, k) (ap (λ z. x ∷ z) (filter_both p q xs)) | inr k ↦ rw (e, k) (filter_both p q xs) ]
+            elim (cases_Bool (q x)) [ inl k ↦ rw (e, k) (ap (λ z. x ∷ z) (filter_both p q xs)) | inr k ↦ rw (e, k) (filter_both p q xs) ]
         | inr e ↦ rw e (filter_both p q xs)
       ]
 
@@ -114,4 +114,4 @@ pub dated_total : (f : Doc → ℕ) (w : Window) (ds : List Doc)
 dated_total f w ds =
     order_total f (λ x. int_le w.low (stored_date x) && int_lt (stored_date x) w.high) ds
     ∙ ap (total f) (filter_both has_date (λ x. int_le w.low (stored_date x) && int_lt (stored_date x) w.high) ds
-          ∙ filter_same _ _ ds (λ d. sym (date_lies w d)))
+    ∙ filter_same _ _ ds (λ d. sym (date_lies w d)))

@@ -106,16 +106,18 @@ module _ (w : Window) (T : Tables) where
     arrived_in : (row : Row) → In row (map of (in_window f w.low w.high xs)) → In row (map of xs) × (is_within w (arrival row) ≡ true)
     arrived_in row i =
         let k = map_in of (in_window f w.low w.high xs) row i in
-        let j = in_filter (λ x. int_le w.low (f x) && int_lt (f x) w.high) xs k.0 k.1 in
-        (subst (λ z. In z (map of xs)) (sym k.2) (in_map of xs k.0 j.0), ap (λ z. is_within w (arrival z)) k.2
-          ∙ ap (λ z. is_within w z) (same k.0) ∙ j.1)
+        let j = in_filter (λ x. int_le w.low (f x) && int_lt (f x) w.high) xs k.0 k.1 in (
+          subst (λ z. In z (map of xs)) (sym k.2) (in_map of xs k.0 j.0),
+          ap (λ z. is_within w (arrival z)) k.2
+              ∙ ap (λ z. is_within w z) (same k.0) ∙ j.1,
+        )
 
     in_arrived : (row : Row) → In row (map of xs) → is_within w (arrival row) ≡ true → In row (map of (in_window f w.low w.high xs))
     in_arrived row i h =
         let k = map_in of xs row i in
         subst (λ z. In z (map of (in_window f w.low w.high xs))) (sym k.2)
         (in_map of (in_window f w.low w.high xs) k.0 (to_filter (λ x. int_le w.low (f x) && int_lt (f x) w.high) xs
-            k.0 k.1 (ap (λ z. is_within w z) (sym (same k.0)) ∙ ap (λ z. is_within w (arrival z)) (sym k.2) ∙ h)))
+        k.0 k.1 (ap (λ z. is_within w z) (sym (same k.0)) ∙ ap (λ z. is_within w (arrival z)) (sym k.2) ∙ h)))
 
   arrived_are : (t : Table) (row : Row) → In row (arrived_rows t w T) → In row (rows_of t T) × (is_within w (arrival row) ≡ true)
   arrived_are Docs row i = arrived_in OfDoc doc_arrival T.docs (λ x. refl) row i
@@ -130,9 +132,11 @@ module _ (w : Window) (T : Tables) where
   dated_are Docs row i =
       let k = map_in OfDoc (dated_in w.low w.high T.docs) row i in
       let j = in_filter (λ x. int_le w.low (stored_date x) && int_lt (stored_date x) w.high) (in_date_order T.docs) k.0 k.1 in
-      let o = in_order_of k.0 T.docs j.0 in
-      (subst (λ z. In z (map OfDoc T.docs)) (sym k.2) (in_map OfDoc T.docs k.0 o.0), ap (λ z. lies_in w (date z)) k.2 ∙ date_lies w k.0
-        ∙ both_true (has_date k.0) _ o.1 j.1)
+      let o = in_order_of k.0 T.docs j.0 in (
+        subst (λ z. In z (map OfDoc T.docs)) (sym k.2) (in_map OfDoc T.docs k.0 o.0),
+        ap (λ z. lies_in w (date z)) k.2 ∙ date_lies w k.0
+            ∙ both_true (has_date k.0) _ o.1 j.1,
+      )
 
   are_dated : (t : Table) (row : Row) → In row (rows_of t T) → lies_in w (date row) ≡ true → In row (dated_rows t w T)
   are_dated Notes row i h =
@@ -141,10 +145,10 @@ module _ (w : Window) (T : Tables) where
   are_dated Docs row i h =
       let k = map_in OfDoc T.docs row i in
       let p =
-          and_parts (has_date k.0) (is_within w (stored_date k.0)) (sym (date_lies w k.0) ∙ ap (λ z. lies_in w (date z)) (sym k.2) ∙ h) in
+      and_parts (has_date k.0) (is_within w (stored_date k.0)) (sym (date_lies w k.0) ∙ ap (λ z. lies_in w (date z)) (sym k.2) ∙ h) in
       subst (λ z. In z (map OfDoc (dated_in w.low w.high T.docs))) (sym k.2)
       (in_map OfDoc (dated_in w.low w.high T.docs) k.0 (to_filter (λ x. int_le w.low (stored_date x) && int_lt (stored_date x) w.high)
-          (in_date_order T.docs) k.0 (order_of_in k.0 T.docs k.1 p.0) p.1))
+      (in_date_order T.docs) k.0 (order_of_in k.0 T.docs k.1 p.0) p.1))
 
   module _ (v : Var) (row : Row) where
     arrival_stored : (u : Var) → Some u ≡ Some v → on_row (lookup u.0 (bind v row [])) (λ r. Some (arrival r)) ≡ Some (arrival row)

@@ -71,7 +71,7 @@ module _ (G : Row → ℕ) (w : Window) (T : Tables) where
   arrived_total u of h =
       total_map G OfDoc (in_window doc_arrival w.low w.high T.docs)
       ∙ ap (total (λ d. G (OfDoc d))) (filter_same (λ d. int_le w.low (doc_arrival d) && int_lt (doc_arrival d) w.high)
-            (λ d. lies_in w (of d)) T.docs (λ d. ap (lies_in w) (sym (h d))))
+      (λ d. lies_in w (of d)) T.docs (λ d. ap (lies_in w) (sym (h d))))
 
   dates_total : (u : Var) (of : (d : Doc) → Option ℤ) → ((d : Doc) → of d ≡ date (OfDoc d))
       → total G (map OfDoc (dated_in w.low w.high T.docs)) ≡ total (λ d. G (OfDoc d)) (filter (λ d. lies_in w (of d)) T.docs)
@@ -79,7 +79,7 @@ module _ (G : Row → ℕ) (w : Window) (T : Tables) where
       total_map G OfDoc (dated_in w.low w.high T.docs)
       ∙ dated_total (λ d. G (OfDoc d)) w T.docs
       ∙ ap (total (λ d. G (OfDoc d)))
-          (filter_same (λ d. lies_in w (date (OfDoc d))) (λ d. lies_in w (of d)) T.docs (λ d. ap (lies_in w) (sym (h d))))
+      (filter_same (λ d. lies_in w (date (OfDoc d))) (λ d. lies_in w (of d)) T.docs (λ d. ap (lies_in w) (sym (h d))))
 
   stored_total : (s : Seek) → seek_var s ≡ Some document_var
       → total G (stored_rows s Docs w T) ≡ total (λ d. G (OfDoc d)) (filter (λ d. lies_in w (driving_second s (asked_of d))) T.docs)
@@ -102,7 +102,7 @@ module _ (T : Tables) (w : Window) (p : Probe) (order : List Reach) (k : IsProbe
   quiet_cost (Some v) e q = total_none (λ row. 1 + cost_at T w p order (bind v row [])) (walked T w p (seek_of p.at) v) (λ row i.
       let r = driven_are T w p v bounded e row (walked_in T w p (seek_of p.at) v row i) in
       let l : lies_in w (value p.at (bind v row [])) ≡ false = q (bind v row []) (subst (λ z. In (bind v row []) (starts_of T p z)) (sym e)
-            (in_map (λ row. bind v row []) (rows_of (table_in p.path v.0) T) row r.0)) in
+      (in_map (λ row. bind v row []) (rows_of (table_in p.path v.0) T) row r.0)) in
       absurd (false≢true (sym l ∙ r.1)))
 
   module _ (a : PathIsDocument p) where
@@ -153,7 +153,7 @@ module _ (T : Tables) (w : Window) (p : Probe) (order : List Reach) (k : IsProbe
         let a = walked_total T w p (seek_of p.at) v (λ row. 1 + cost_at T w p order (bind v row [])) in
         let b : total (λ row. 1 + cost_at T w p order (bind v row [])) (driving T w p (seek_of p.at) v) ≤ rows_due T w p =
         subst (λ z. total (λ row. 1 + cost_at T w p order (bind z row [])) (driving T w p (seek_of p.at) z) ≤ rows_due T w p) (sym v_is)
-          by_m in
+        by_m in
         omega (arith, a, b)
       where
         v_in : In v.0 (numbers_of (driven p.at.base))
@@ -170,7 +170,7 @@ module _ (T : Tables) (w : Window) (p : Probe) (order : List Reach) (k : IsProbe
         no_order (r ∷ rs) q =
             let i : In r.var.0 (order_vars order) = subst (λ z. In r.var.0 (order_vars z)) q (inl refl) in
             absurd (apart_left (numbers_of (driven p.at.base)) (order_vars order)
-                o.once r.var.0 (subst (λ z. In z (numbers_of (driven p.at.base))) (sym (in_order r.var.0 i)) zero_in) i)
+            o.once r.var.0 (subst (λ z. In z (numbers_of (driven p.at.base))) (sym (in_order r.var.0 i)) zero_in) i)
 
         e_m : seek_var (seek_of p.at) ≡ Some document_var
         e_m = e ∙ ap Some v_is
@@ -179,7 +179,7 @@ module _ (T : Tables) (w : Window) (p : Probe) (order : List Reach) (k : IsProbe
             ≤ total (λ row. 1 + work T p.body (bind document_var row [])) (driving T w p (seek_of p.at) document_var)
         less = total_less _ _ (driving T w p (seek_of p.at) document_var) (λ row.
             one row (subst (λ z. cost_at T w p z (bind document_var row []) ≤ work T p.body (bind document_var row []))
-              (sym (no_order order refl)) (cost_less (bind document_var row []))))
+            (sym (no_order order refl)) (cost_less (bind document_var row []))))
           where
             one : (row : Row) → cost_at T w p order (bind document_var row []) ≤ work T p.body (bind document_var row [])
                 → 1 + cost_at T w p order (bind document_var row []) ≤ 1 + work T p.body (bind document_var row [])
@@ -188,10 +188,10 @@ module _ (T : Tables) (w : Window) (p : Probe) (order : List Reach) (k : IsProbe
         same : total (λ row. 1 + work T p.body (bind document_var row [])) (driving T w p (seek_of p.at) document_var) ≡ rows_due T w p
         same =
             ap (λ t. total (λ row. 1 + work T p.body (bind document_var row []))
-                (stored_rows (seek_of p.at) t (seek_window w (seek_of p.at)) T)) (asked_table p k)
+            (stored_rows (seek_of p.at) t (seek_window w (seek_of p.at)) T)) (asked_table p k)
             ∙ stored_total (λ row. 1 + work T p.body (bind document_var row [])) (seek_window w (seek_of p.at)) T (seek_of p.at) e_m
             ∙ ap (total due) (filter_same (λ d. lies_in (seek_window w (seek_of p.at)) (driving_second (seek_of p.at) (asked_of d)))
-                  (λ d. lies_in w (value p.at (asked_of d))) T.docs (λ d. sym (solved p.at w (asked_of d) bounded)))
+            (λ d. lies_in w (value p.at (asked_of d))) T.docs (λ d. sym (solved p.at w (asked_of d) bounded)))
 
         by_m : total (λ row. 1 + cost_at T w p order (bind document_var row [])) (driving T w p (seek_of p.at) document_var)
             ≤ rows_due T w p
@@ -209,7 +209,7 @@ module _ (T : Tables) (w : Window) (p : Probe) (order : List Reach) (k : IsProbe
         bound_zero =
             let s = map_in (λ (s : Step). s.var.0) p.path 0 asked_var in
             subst (λ vs. In 0 (numbers_of vs ++ order_vars order)) none_driven
-              (subst (λ z. In z (numbers_of (driven p.at.base) ++ order_vars order)) (sym s.2) (o.steps s.0 s.1))
+            (subst (λ z. In z (numbers_of (driven p.at.base) ++ order_vars order)) (sym s.2) (o.steps s.0 s.1))
 
         once : Distinct (order_vars order)
         once = subst (λ vs. Distinct (numbers_of vs ++ order_vars order)) none_driven o.once
@@ -217,7 +217,7 @@ module _ (T : Tables) (w : Window) (p : Probe) (order : List Reach) (k : IsProbe
         every : (b : ℤ) → value p.at [] ≡ Some b → lies_in w (value p.at []) ≡ true
             → filter (λ d. lies_in w (value p.at (asked_of d))) T.docs ≡ T.docs
         every b v l = filter_all _ T.docs (λ d i. ap (lies_in w) (value_same (numbers_of (driven p.at.base)) [] (asked_of d)
-              (λ j z. absurd (subst (λ vs. In j (numbers_of vs)) none_driven z)) p.at (base_driven p.at.base)) ∙ l)
+            (λ j z. absurd (subst (λ vs. In j (numbers_of vs)) none_driven z)) p.at (base_driven p.at.base)) ∙ l)
 
         walk : (b : ℤ) (rs : List Reach) (bound : List Var) → IsServed p.path bound rs → Distinct (order_vars rs) → In 0 (order_vars rs)
             → work_over T p b false rs [] ≤ total due T.docs
@@ -251,7 +251,7 @@ module _ (T : Tables) (w : Window) (p : Probe) (order : List Reach) (k : IsProbe
                       where
                         x_zero : x.var.0 ≡ 0
                         x_zero = is_asked x.var.0 (subst (λ (v : Var). In v.0 (vars_of p.path)) (sym near.var)
-                              (in_map (λ (s : Step). s.var.0) p.path near.step near.is_step))
+                            (in_map (λ (s : Step). s.var.0) p.path near.step near.is_step))
 
                         plus : (a b : ℕ) → a ≤ b → 1 + a ≤ 1 + b
                         plus a b h = omega (arith, h)
@@ -265,7 +265,7 @@ module _ (T : Tables) (w : Window) (p : Probe) (order : List Reach) (k : IsProbe
                         all : total (λ row. 1 + work T p.body (bind x.var row [])) (rows_of (table_of x.access) T) ≡ total due T.docs
                         all =
                             ap (λ t. total (λ row. 1 + work T p.body (bind x.var row [])) (rows_of t T))
-                              (reach_rows T p.path b k.once [] x near ∙ ap (table_in p.path) x_zero ∙ asked_table p k)
+                            (reach_rows T p.path b k.once [] x near ∙ ap (table_in p.path) x_zero ∙ asked_table p k)
                             ∙ total_map (λ row. 1 + work T p.body (bind x.var row [])) OfDoc T.docs
                             ∙ total_same _ _ T.docs (λ d. ap (λ (v : Var). 1 + work T p.body (bind v (OfDoc d) [])) (var_is x.var x_zero))
 
@@ -274,7 +274,7 @@ module _ (T : Tables) (w : Window) (p : Probe) (order : List Reach) (k : IsProbe
         go (Some b) q =
             let l = mark_lies w (value p.at []) b q in
             subst (λ z. work_over T p b false order [] ≤ total due z) (sym (every b l.0 l.1))
-              (walk b order (driven p.at.base) o.served once bound_zero)
+            (walk b order (driven p.at.base) o.served once bound_zero)
 
     -- a path of the document alone takes no more steps than its marked documents are due
     pub alone_cost : (sv : Option Var) → seek_var (seek_of p.at) ≡ sv → seek_cost T w p order (seek_of p.at) sv ≤ rows_due T w p

@@ -142,7 +142,7 @@ module _ (entries : List Entry) (T : Tables) (w : Window) (p : Probe) (order : L
           let s = map_in (λ (x : Step). x.var.0) (filter (is_left env) p.path) j i in
           let f = in_filter (is_left env) p.path s.0 s.1 in
           subst (λ z. In z (order_vars order)) (sym s.2)
-            (go s.0 f.1 (append_in (numbers_of (driven p.at.base)) (order_vars order) s.0.var.0 (o.steps s.0 f.0)))
+          (go s.0 f.1 (append_in (numbers_of (driven p.at.base)) (order_vars order) s.0.var.0 (o.steps s.0 f.0)))
         where
           go : (step : Step) → is_left env step ≡ true → In step.var.0 (numbers_of (driven p.at.base)) ⊎ In step.var.0 (order_vars order)
               → In step.var.0 (order_vars order)
@@ -173,7 +173,7 @@ module _ (entries : List Entry) (T : Tables) (w : Window) (p : Probe) (order : L
         → In h (hits_at entries T w p order env)
     beside_complete env same dr come =
         let v : value p.at env ≡ Some h.first =
-            sym (value_same (base_vars p.at.base) env f.env (λ j i. same j (dr j i)) p.at (base_own p.at.base)) ∙ f.at in
+        sym (value_same (base_vars p.at.base) env f.env (λ j i. same j (dr j i)) p.at (base_own p.at.base)) ∙ f.at in
         let i = hits_complete entries T p h.first k g.doc f g.is_row order env h g.unseen g.num refl same come (order_left env dr) dr in
         subst (λ z. In h (marked_hits entries T w p order env z)) (sym (to_mark w (value p.at env) h.first v g.within)) i
 
@@ -205,8 +205,12 @@ module _ (entries : List Entry) (T : Tables) (w : Window) (p : Probe) (order : L
         bound row t j z y = go (held_was [] v row j y)
           where
             go : (j ≡ v.0) ⊎ (is_held [] j ≡ true) → (r : Row) × In r (rows_of (table_in p.path j) T) × (lookup j (bind v row []) ≡ Some r)
-            go (inl q) = (row, subst (λ y. In row (rows_of (table_in p.path y) T)) (sym q) t, ap (λ y. lookup y (bind v row [])) q
-                  ∙ bind_same v row [])
+            go (inl q) = (
+              row,
+              subst (λ y. In row (rows_of (table_in p.path y) T)) (sym q) t,
+              ap (λ y. lookup y (bind v row [])) q
+                  ∙ bind_same v row [],
+            )
             go (inr y) = absurd (none_held j y)
 
     pub seek_complete : (sv : Option Var) → seek_var (seek_of p.at) ≡ sv → (h : Hit) → IsFoundBy entries p T w h
@@ -222,9 +226,12 @@ module _ (entries : List Entry) (T : Tables) (w : Window) (p : Probe) (order : L
             × (lookup v.0 (f h g).env ≡ Some row) × (int_le (arrival row) h.first ≡ true)
         found_row v i =
             let s = map_in (λ (x : Step). x.var.0) p.path v.0 i in
-            let x = found_rows entries T p h.first k g.doc (f h g) g.is_row s.0 s.1 in
-            (x.0, subst (λ z. In x.0 (rows_of z T)) (sym (table_is p.path s.0 k.once s.1) ∙ ap (table_in p.path) (sym s.2)) x.1,
-              ap (λ z. lookup z (f h g).env) s.2 ∙ x.2, x.3)
+            let x = found_rows entries T p h.first k g.doc (f h g) g.is_row s.0 s.1 in (
+              x.0,
+              subst (λ z. In x.0 (rows_of z T)) (sym (table_is p.path s.0 k.once s.1) ∙ ap (table_in p.path) (sym s.2)) x.1,
+              ap (λ z. lookup z (f h g).env) s.2 ∙ x.2,
+              x.3,
+            )
 
         go : (row : Row) × In row (rows_of (table_in p.path v.0) T) × (lookup v.0 (f h g).env ≡ Some row)
             × (int_le (arrival row) h.first ≡ true) → In h (seek_hits entries T w p order (seek_of p.at) (Some v))
@@ -232,8 +239,8 @@ module _ (entries : List Entry) (T : Tables) (w : Window) (p : Probe) (order : L
             let same : AreSame (is_held (bind v x.0 [])) (bind v x.0 []) (f h g).env = agree x.0 x.2 in
             let dr = one_driver v x.0 e in
             let val : value p.at (bind v x.0 []) ≡ Some h.first =
-                sym (value_same (base_vars p.at.base) (bind v x.0 []) (f h g).env (λ j i. same j (dr j i)) p.at (base_own p.at.base))
-                ∙ (f h g).at in
+            sym (value_same (base_vars p.at.base) (bind v x.0 []) (f h g).env (λ j i. same j (dr j i)) p.at (base_own p.at.base))
+            ∙ (f h g).at in
             to_flat (λ row. hits_at entries T w p order (bind v row [])) (driving T w p (seek_of p.at) v) x.0 h
             (are_driven T w p v bounded e x.0 x.1 (ap (lies_in w) val ∙ g.within))
             (beside_complete h g (bind v x.0 []) same dr (and_from _ _ x.3 refl))

@@ -151,7 +151,7 @@ module _ (q : RangedQuery) where
               let a = from_flat (part_hits entries T w q.pool) q.parts h i in
               let p = probe_in q.pool a.0.probe in
               let f = seek_sound entries T w p (part_order a.0) (part_probe a.0 a.1) (orders_serve p.path p.at.base) (part_bounded a.0 a.1)
-                  (seek_var (seek_of p.at)) refl h (of_seek a.0 h a.2) in
+              (seek_var (seek_of p.at)) refl h (of_seek a.0 h a.2) in
               let b = and_parts (int_le w.low h.first) (int_lt h.first w.high) f.within in
               record {
                 doc = f.doc;
@@ -179,4 +179,4 @@ module _ (q : RangedQuery) where
               } in
               to_flat (part_hits entries T w q.pool) q.parts a.0 h a.1
               (to_seek a.0 h (seek_complete entries T w p (part_order a.0) (part_probe a.0 a.1) (orders_serve p.path p.at.base)
-                  (part_bounded a.0 a.1) (seek_var (seek_of p.at)) refl h g))
+              (part_bounded a.0 a.1) (seek_var (seek_of p.at)) refl h g))

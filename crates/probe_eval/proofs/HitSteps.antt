@@ -19,20 +19,20 @@ module _ (entries : List Entry) (T : Tables) (p : Probe) (b : ℤ) where
       → hits_over entries T p b order env ≡ option_to_list (hit_if (holds_here T p b order env) b (new_doc entries d))
   doc_hits [] env d e = ap (λ o. asked_or entries T p b [] env o []) e
   doc_hits (x ∷ rs) env d e = ap (λ o. asked_or entries T p b (x ∷ rs) env o
-        (over_rows T b env (further p.path b env) (λ r row. hits_over entries T p b rs (bind r.var row env)))) e
+      (over_rows T b env (further p.path b env) (λ r row. hits_over entries T p b rs (bind r.var row env)))) e
 
   pub note_hits : (order : List Reach) (env : Env) (row : Row) → lookup 0 env ≡ Some row → ((d : Doc) → row ≡ OfDoc d → ⊥)
       → hits_over entries T p b order env ≡ []
   note_hits order env (OfDoc d) e n = absurd (n d refl)
   note_hits [] env (OfNote x) e n = ap (λ o. asked_or entries T p b [] env o []) e
   note_hits (r ∷ rs) env (OfNote x) e n = ap (λ o. asked_or entries T p b (r ∷ rs) env o
-        (over_rows T b env (further p.path b env) (λ r row. hits_over entries T p b rs (bind r.var row env)))) e
+      (over_rows T b env (further p.path b env) (λ r row. hits_over entries T p b rs (bind r.var row env)))) e
 
   pub next_hits : (x : Reach) (rs : List Reach) (env : Env) (r : Reach) → lookup 0 env ≡ None → further p.path b env ≡ Some r
       → hits_over entries T p b (x ∷ rs) env ≡ flat_map (λ row. hits_over entries T p b rs (bind r.var row env)) (rows_by b r.access env T)
   next_hits x rs env r e f =
       ap (λ o. asked_or entries T p b (x ∷ rs) env o
-          (over_rows T b env (further p.path b env) (λ r row. hits_over entries T p b rs (bind r.var row env)))) e
+      (over_rows T b env (further p.path b env) (λ r row. hits_over entries T p b rs (bind r.var row env)))) e
       ∙ ap (λ o. over_rows T b env o (λ r row. hits_over entries T p b rs (bind r.var row env))) f
 
 module _ (T : Tables) (p : Probe) (b : ℤ) where
@@ -50,6 +50,6 @@ module _ (T : Tables) (p : Probe) (b : ℤ) where
 
   pub next_cost : (sure : Bool) (x : Reach) (rs : List Reach) (env : Env) (r : Reach) → lookup 0 env ≡ None → further p.path b env ≡ Some r
       → work_over T p b sure (x ∷ rs) env ≡ once_cost T p b (is_once p.path env rs r.var) (x ∷ rs) env
-          (total (λ row. 1 + work_over T p b (is_once p.path env rs r.var) rs (bind r.var row env)) (rows_by b r.access env T))
+      (total (λ row. 1 + work_over T p b (is_once p.path env rs r.var) rs (bind r.var row env)) (rows_by b r.access env T))
   next_cost sure x rs env r e f = ap (λ o. asked_cost T p b sure (x ∷ rs) env o (others_cost x rs env (further p.path b env))) e
       ∙ ap (others_cost x rs env) f

@@ -171,7 +171,7 @@ pub left_between : (test : Doc → Bool) (docs left : List Doc) (low high : Opti
 left_between test docs left low high e l h =
     subst (LeavesFalse test docs) (sym e)
     (left_again test docs (cut_above low docs) (left_above test docs low l) (between low high docs)
-      (left_below test (cut_above low docs) high h))
+    (left_below test (cut_above low docs) high h))
 
 -- what a bound rules out with all tables it rules out with these
 pub for_tables : (side : Side) (test : Tables → Doc → Bool) (T : Tables) (r : Option DocNum)

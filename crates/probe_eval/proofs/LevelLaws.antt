@@ -44,7 +44,7 @@ module _ (T : Tables) (p : Probe) (b : ℤ) where
   rest_next x rs env r f =
       let k = further_is p.path b env r f in
       ap (λ m. m
-          && all_or (nearest p.path env) (λ r. list_any (λ row. rest_of T p.path b rs (bind r.var row env)) (rows_by b r.access env T))) k.0
+      && all_or (nearest p.path env) (λ r. list_any (λ row. rest_of T p.path b rs (bind r.var row env)) (rows_by b r.access env T))) k.0
       ∙ ap (λ o. all_or o (λ r. list_any (λ row. rest_of T p.path b rs (bind r.var row env)) (rows_by b r.access env T))) k.1
 
   is_apart_once : (env : Env) (rs : List Reach) (v : Var) → is_once p.path env rs v ≡ true → (v.0 ≡ 0) × (path_apart p.path env v ≡ true)
@@ -74,16 +74,16 @@ module _ (T : Tables) (p : Probe) (b : ℤ) where
       → order ≡ x ∷ rs → lookup 0 env ≡ None → further p.path b env ≡ Some r → once ≡ is_once p.path env rs r.var
       → is_walked T p b once order env ≡ true → now ≤ s + once_cost T p b once order env 0
       → now + total (λ row. 1 + work_over T p b once rs (bind r.var row env)) (rows_by b r.access env T)
-          ≤ s + work_over T p b sure order env
+      ≤ s + work_over T p b sure order env
   level_paid s now once sure order x rs env r q e f o w h =
       let walk = total (λ row. 1 + work_over T p b once rs (bind r.var row env)) (rows_by b r.access env T) in
       let c : work_over T p b sure order env ≡ once_cost T p b once order env walk =
       ap (λ z. work_over T p b sure z env) q ∙ next_cost T p b sure x rs env r e f
       ∙ ap (λ z. once_cost T p b z (x ∷ rs) env (total (λ row. 1 + work_over T p b z rs (bind r.var row env)) (rows_by b r.access env T)))
-          (sym o)
+      (sym o)
       ∙ ap (λ z. once_cost T p b once z env walk) (sym q) in
       let k : once_cost T p b once order env 0 + walk ≡ once_cost T p b once order env walk =
-          walked_cost (if once then rest_cost T p.path b order env else 0) walk (is_walked T p b once order env) w in
+      walked_cost (if once then rest_cost T p.path b order env else 0) walk (is_walked T p b once order env) w in
       omega (arith, h, c, k)
 
   -- and the search before, if they aren't walked
@@ -95,10 +95,10 @@ module _ (T : Tables) (p : Probe) (b : ℤ) where
       let c : work_over T p b sure order env ≡ once_cost T p b once order env walk =
       ap (λ z. work_over T p b sure z env) q ∙ next_cost T p b sure x rs env r e f
       ∙ ap (λ z. once_cost T p b z (x ∷ rs) env (total (λ row. 1 + work_over T p b z rs (bind r.var row env)) (rows_by b r.access env T)))
-          (sym o)
+      (sym o)
       ∙ ap (λ z. once_cost T p b once z env walk) (sym q) in
       let k : once_cost T p b once order env 0 ≤ once_cost T p b once order env walk =
-          less_cost (if once then rest_cost T p.path b order env else 0) walk (is_walked T p b once order env) in
+      less_cost (if once then rest_cost T p.path b order env else 0) walk (is_walked T p b once order env) in
       omega (arith, h, c, k)
 
 pub level_steps : (T : Tables) (p : Probe) (b : ℤ) (env : Env) (level : Level) (rows : List Row) (s bound : ℕ)
@@ -117,7 +117,7 @@ module _ (entries : List Entry) (T : Tables) (p : Probe) (b : ℤ) where
   none_next order x rs env q e f =
       ap (λ z. hits_over entries T p b z env) q
       ∙ ap (λ o. asked_or entries T p b (x ∷ rs) env o
-            (over_rows T b env (further p.path b env) (λ r row. hits_over entries T p b rs (bind r.var row env)))) e
+      (over_rows T b env (further p.path b env) (λ r row. hits_over entries T p b rs (bind r.var row env)))) e
       ∙ ap (λ o. over_rows T b env o (λ r row. hits_over entries T p b rs (bind r.var row env))) f
 
   -- a document without a rest has no hit
@@ -138,7 +138,7 @@ module _ (entries : List Entry) (T : Tables) (p : Probe) (b : ℤ) where
   no_rests rs env v (row ∷ rows) z h =
       let k = none_first (rest_of T p.path b rs (bind v row env)) (list_any (λ row. rest_of T p.path b rs (bind v row env)) rows) h in
       ap (λ xs. xs ++ flat_map (λ row. hits_over entries T p b rs (bind v row env)) rows) (no_rest rs env v row z k.0)
-        ∙ no_rests rs env v rows z k.1
+      ∙ no_rests rs env v rows z k.1
 
   -- if the rest was looked for once and isn't there, there is no hit
   pub none_walked : (once : Bool) (order : List Reach) (x : Reach) (rs : List Reach) (env : Env) (r : Reach) → order ≡ x ∷ rs
@@ -150,7 +150,7 @@ module _ (entries : List Entry) (T : Tables) (p : Probe) (b : ℤ) where
       let a = is_apart_once T p b env rs r.var (sym o ∙ y) in
       ap (λ z. hits_over entries T p b z env) q ∙ next_hits entries T p b x rs env r e f
       ∙ no_rests rs env r.var (rows_by b r.access env T)
-          a.0 (sym (rest_next T p b x rs env r f) ∙ ap (λ z. rest_of T p.path b z env) (sym q) ∙ k.1)
+      a.0 (sym (rest_next T p b x rs env r f) ∙ ap (λ z. rest_of T p.path b z env) (sym q) ∙ k.1)
     where
       was_true : (c : Bool) → not c ≡ false → c ≡ true
       was_true true h = refl

@@ -115,13 +115,13 @@ module _ (T : Tables) (p : Probe) (v : Var) (n m : ℕ) (k : IsProbe p) (short :
       → further p.path b env ≡ Some r → length rows ≤ length (rows_by b r.access env T)
       → ((row : Row) → In row rows → In row (rows_by b r.access env T))
       → ((row : Row) → InTables T p.path (bind r.var row env) → is_held (bind r.var row env) v.0 ≡ true → f row ≤ c)
-          → total (λ row. 1 + f row) rows ≤ n * (1 + c)
+      → total (λ row. 1 + f row) rows ≤ n * (1 + c)
   next_less env r f c rows t h e few same each =
       let near = (further_is p.path b env r e).1 in
       let serves = nearest_serves p.path env r near in
       let s = total_times (λ row. 1 + f row) (1 + c) rows (λ row i. plus_one (f row) c
-          (each row (in_tables T p.path b k.once env r row t (walked_row T p.path b k.once env r row serves (same row i)))
-            (held_more env r.var row v.0 h))) in
+      (each row (in_tables T p.path b k.once env r row t (walked_row T p.path b k.once env r row serves (same row i)))
+      (held_more env r.var row v.0 h))) in
       le _ _ _ s (times_less (length rows) n (1 + c) (le _ _ _ few (short b env r t h near)))
 
   rest_less : (order : List Reach) (env : Env) → InTables T p.path env → is_held env v.0 ≡ true
@@ -132,19 +132,19 @@ module _ (T : Tables) (p : Probe) (v : Var) (n m : ℕ) (k : IsProbe p) (short :
       go : ((e : Env) → InTables T p.path e → is_held e v.0 ≡ true → rest_cost T p.path b rs e ≤ rest_bound n (length rs))
           → (o : Option Reach) → further p.path b env ≡ o
           → cost_of o (λ r. total (λ row. 1 + rest_cost T p.path b rs (bind r.var row env))
-                (until (decides T p.path b rs env r.var) (rows_by b r.access env T))) ≤ n * (1 + rest_bound n (length rs))
+          (until (decides T p.path b rs env r.var) (rows_by b r.access env T))) ≤ n * (1 + rest_bound n (length rs))
       go more None e = omega arith
       go more (Some r) e =
           let f = decides T p.path b rs env r.var in
           let rows = rows_by b r.access env T in
           next_less env r (λ row. rest_cost T p.path b rs (bind r.var row env)) (rest_bound n (length rs)) (until f rows) t h e
-            (until_less f rows) (λ row i. in_until f rows row i) (λ row s g. more (bind r.var row env) s g)
+          (until_less f rows) (λ row i. in_until f rows row i) (λ row s g. more (bind r.var row env) s g)
 
   here_less : (sure : Bool) (order : List Reach) (env : Env) → InTables T p.path env → is_held env v.0 ≡ true
       → cost_here T p b sure order env ≤ rest_bound n (length order) + m
   here_less sure order env t h =
       parts_less sure (rest_of T p.path b order env) (rest_cost T p.path b order env) (work T p.body env) (rest_bound n (length order)) m
-        (rest_less order env t h) (body env t)
+      (rest_less order env t h) (body env t)
 
   walk_less : (sure : Bool) (order : List Reach) (env : Env) → InTables T p.path env → is_held env v.0 ≡ true
       → work_over T p b sure order env ≤ path_bound n m (length order)
@@ -161,22 +161,22 @@ module _ (T : Tables) (p : Probe) (v : Var) (n m : ℕ) (k : IsProbe p) (short :
 
       next : More → (o : Option Reach) → further p.path b env ≡ o
           → cost_of o (λ r. once_cost T p b (is_once p.path env rs r.var) (x ∷ rs) env
-                (total (λ row. 1 + work_over T p b (is_once p.path env rs r.var) rs (bind r.var row env)) (rows_by b r.access env T)))
-              ≤ path_bound n m (suc (length rs))
+          (total (λ row. 1 + work_over T p b (is_once p.path env rs r.var) rs (bind r.var row env)) (rows_by b r.access env T)))
+          ≤ path_bound n m (suc (length rs))
       next more None e = omega arith
       next more (Some r) e =
           let once = is_once p.path env rs r.var in
           let walk = next_less env r (λ row. work_over T p b once rs (bind r.var row env)) (path_bound n m (length rs))
-              (rows_by b r.access env T) t h e (no_less _ _ refl) (λ row i. i) (λ row s g. more once (bind r.var row env) s g) in
+          (rows_by b r.access env T) t h e (no_less _ _ refl) (λ row i. i) (λ row s g. more once (bind r.var row env) s g) in
           with_middle _ (rest_bound n (suc (length rs))) m (n * (1 + path_bound n m (length rs)))
-            (both_less once (is_walked T p b once (x ∷ rs) env) (rest_cost T p.path b (x ∷ rs) env) _ (rest_bound n (suc (length rs)))
-              (n * (1 + path_bound n m (length rs))) (rest_less (x ∷ rs) env t h) walk)
+          (both_less once (is_walked T p b once (x ∷ rs) env) (rest_cost T p.path b (x ∷ rs) env) _ (rest_bound n (suc (length rs)))
+          (n * (1 + path_bound n m (length rs))) (rest_less (x ∷ rs) env t h) walk)
 
       go : More → (o : Option Row)
           → asked_cost T p b sure (x ∷ rs) env o
-              (cost_of (further p.path b env) (λ r. once_cost T p b (is_once p.path env rs r.var) (x ∷ rs) env
-                  (total (λ row. 1 + work_over T p b (is_once p.path env rs r.var) rs (bind r.var row env)) (rows_by b r.access env T))))
-              ≤ path_bound n m (suc (length rs))
+          (cost_of (further p.path b env) (λ r. once_cost T p b (is_once p.path env rs r.var) (x ∷ rs) env
+          (total (λ row. 1 + work_over T p b (is_once p.path env rs r.var) rs (bind r.var row env)) (rows_by b r.access env T))))
+          ≤ path_bound n m (suc (length rs))
       go more None = next more (further p.path b env) refl
       go more (Some (OfDoc d)) =
           add_left _ (rest_bound n (suc (length rs)) + m) (n * (1 + path_bound n m (length rs))) (here_less sure (x ∷ rs) env t h)
@@ -198,7 +198,7 @@ driver_tables T path v row t j z y = go (held_was [] v row j y)
 pub probes_by_index_are_linear : ProbesByIndexAreLinear
 probes_by_index_are_linear T w p v order n m k bounded e short body =
     total_times (λ row. 1 + cost_at T w p order (bind v row [])) (1 + path_bound n m (length order)) (walked T w p (seek_of p.at) v)
-      (λ row i. plus_one _ _ (marked row (driven_are T w p v bounded e row (walked_in T w p (seek_of p.at) v row i)).0))
+    (λ row i. plus_one _ _ (marked row (driven_are T w p v bounded e row (walked_in T w p (seek_of p.at) v row i)).0))
   where
     marked : (row : Row) → In row (rows_of (table_in p.path v.0) T) → cost_at T w p order (bind v row []) ≤ path_bound n m (length order)
     marked row i = go (mark_in w (value p.at (bind v row [])))
@@ -243,7 +243,7 @@ near_asked : (env : Env) → is_held env reply_var.0 ≡ true → near reply_pro
 near_asked env h =
     ap (λ c. option_or (option_or (option_or (option_map ByMsgId (if c then Some (Field reply_var InReplyTo) else None)) None) None)
     (first_some (kind_access reply_probe.path env asked_step)
-          (K.ByParent ∷ K.ReferencedBy ∷ K.ByReference ∷ K.BySubject ∷ K.BySender ∷ K.ByWord ∷ []))) h
+    (K.ByParent ∷ K.ReferencedBy ∷ K.ByReference ∷ K.BySubject ∷ K.BySender ∷ K.ByWord ∷ []))) h
 
 one_asked : (T : Tables) → HasDistinctIds T → (o : Option (List ℕ))
     → length (filter (λ row. both_texts Eq (text_field MsgId row) o) (rows_of Docs T)) ≤ 1
@@ -262,11 +262,11 @@ reply_short T d b env r t h e = go k.step k.is_step k.fresh k.access
     go : (step : Step) → In step reply_probe.path → is_held env step.var.0 ≡ false
         → r.access ≡ unwrap_or (near reply_probe.path env step) (whole step.table) → length (rows_by b r.access env T) ≤ 1
     go step (inl q) f a = asked (a ∙ ap (λ (s : Step). unwrap_or (near reply_probe.path env s) (whole s.table)) q
-          ∙ ap (λ o. unwrap_or o (whole Docs)) (near_asked env h))
+        ∙ ap (λ o. unwrap_or o (whole Docs)) (near_asked env h))
     go step (inr (inl q)) f a = absurd (false≢true (sym f ∙ ap (λ (s : Step). is_held env s.var.0) q ∙ h))
     go step (inr (inr i)) f a = absurd i
 
 pub replies_take_three_steps : RepliesTakeThreeSteps
 replies_take_three_steps T w d =
     probes_by_index_are_linear T w reply_probe reply_var (order_of reply_probe.path reply_probe.at.base) 1 0 reply_is_probe refl refl
-      (reply_short T d) (λ env t. omega arith)
+    (reply_short T d) (λ env t. omega arith)

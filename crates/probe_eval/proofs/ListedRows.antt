@@ -112,21 +112,21 @@ path_parts v body (step ∷ other ∷ path) h = absurd (false≢true h)
 module _ (T : Tables) (w : Window) (p : Probe) (seek : Seek) (v : Var) (step : Step) (a : Atom) (path : p.path ≡ step ∷ [])
     (guards : step.guards ≡ a ∷ [])
     (table : step.table ≡ Docs) (is : step.var.0 ≡ v.0) (by : is_by_arrival seek ≡ true) (literal : is_some (literal_kind v a) ≡ true)
-      (body : is_implied a p.body ≡ true) where
+    (body : is_implied a p.body ≡ true) where
   chosen_one : chosen T v p.path seek (table_in p.path v.0) ≡ Some a
   chosen_one =
       ap (λ x. chosen T v x seek (table_in x v.0)) path ∙ ap (chosen T v (step ∷ []) seek) (table_one step v.0 table)
-        ∙ chosen_by T v (step ∷ []) seek by
+      ∙ chosen_by T v (step ∷ []) seek by
       ∙ rarest_one T v step a guards literal
 
   walked_true : (row : Row) → In row (walked T w p seek v) → true_atom a (bind v row []) ≡ true
   walked_true row i = (in_filter (λ row. true_atom a (bind v row [])) (driving T w p seek v) row
-        (subst (λ o. In row (rows_where v o (driving T w p seek v))) chosen_one i)).1
+      (subst (λ o. In row (rows_where v o (driving T w p seek v))) chosen_one i)).1
 
   may_go_is : (row : Row) → true_atom a (bind v row []) ≡ true → (b : ℤ) → may_go p.path b (bind v row []) ≡ int_le (arrival row) b
   may_go_is row t b =
       let o : path_open p.path (bind v row []) ≡ true = ap (λ x. path_open x (bind v row [])) path
-          ∙ open_one (bind v row []) a t step guards in
+      ∙ open_one (bind v row []) a t step guards in
       ap (λ c. come_by b (bind v row []) && c) o ∙ and_true (come_by b (bind v row [])) ∙ and_true (int_le (arrival row) b)
 
   holds_is : (row : Row) → In row (walked T w p seek v) → (b : ℤ) (order : List Reach)
@@ -142,7 +142,7 @@ module _ (T : Tables) (w : Window) (p : Probe) (seek : Seek) (v : Var) (step : S
 -- such a probe finds each row that is walked, at each mark that isn't before it
 list_holds : (T : Tables) (w : Window) (p : Probe) (seek : Seek) (v : Var) → goes_by_list p seek v ≡ true
     → (v.0 ≡ 0) × ((row : Row) → In row (walked T w p seek v) → (b : ℤ) (order : List Reach)
-          → holds_here T p b order (bind v row []) ≡ int_le (arrival row) b)
+    → holds_here T p b order (bind v row []) ≡ int_le (arrival row) b)
 list_holds T w p seek v h =
     let k = and_parts _ _ h in
     let q = path_parts v p.body p.path k.1 in
@@ -175,9 +175,9 @@ module _ (entries : List Entry) (T : Tables) (w : Window) (p : Probe) (order : L
   -- the hits of the rows that are walked need no test but that of their marks
   pub listed_rows : (seek : Seek) → goes_by_list p seek v ≡ true
       → flat_map (λ row. hits_at entries T w p order (bind v row [])) (walked T w p seek v)
-          ≡ flat_map (listed_hits entries w p v) (walked T w p seek v)
+      ≡ flat_map (listed_hits entries w p v) (walked T w p seek v)
   listed_rows seek h =
       let k = list_holds T w p seek v h in
       flat_same (λ row. hits_at entries T w p order (bind v row [])) (listed_hits entries w p v) (walked T w p seek v)
       (λ row i. at_row row (subst (λ n. lookup n (bind v row []) ≡ Some row) k.0 (bind_same v row [])) (λ b. k.1 row i b order)
-        (mark_in w (value p.at (bind v row []))))
+      (mark_in w (value p.at (bind v row []))))

@@ -124,7 +124,7 @@ pub under_literal : (v : Var) (a : Atom) (kind : TextKind) (low high : ℤ) (doc
 under_literal v a kind low high docs h =
     ap (map OfDoc) (filter_swap _ (λ d. list_any (λ other. bytes_eq (literal_of a) other) (texts_of kind d)) docs)
     ∙ picked OfDoc (λ d. list_any (λ other. bytes_eq (literal_of a) other) (texts_of kind d)) (λ row. true_atom a (bind v row []))
-        (in_window doc_arrival low high docs) (same_truth v a kind h)
+    (in_window doc_arrival low high docs) (same_truth v a kind h)
 
 -- all documents arrived at moments of the clock
 module _ (P : Doc → Bool) (high : ℤ) (late : pos 250000000000 <ℤ high) where

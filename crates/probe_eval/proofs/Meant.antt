@@ -84,7 +84,7 @@ module _ (seen : Doc → Bool) (X : List Probe) (T : Tables) (w : Window) where
       → In h (meaning_without seen X T w)
   in_meaning h d i u n e =
       in_ordered h _ (from_kept (λ d. hit_of d (least X T d w)) unseen_docs d h (to_filter (λ d. not (seen d)) T.docs d i (ap not u))
-          (hit_back d (least X T d w) h n e))
+      (hit_back d (least X T d w) h n e))
 
   pub found_least : (h : Hit) (d : Doc) → In d T.docs → seen d ≡ false → h.doc ≡ d.num → least X T d w ≡ Some h.first → IsFound seen X T w h
   found_least h d i u n e =

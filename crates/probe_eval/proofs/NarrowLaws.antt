@@ -41,16 +41,16 @@ module _ (path : List Step) (b : ℤ) (v : Var) (env : Env) where
   -- documents that arrived after the mark, or whose numbers the path rules out, are left out
   pub those_on : (docs by kept : List Doc) (low high : Option DocNum) → by ≡ up_to doc_arrival b docs → kept ≡ between low high by
       → IfSome low (λ num. RulesOut Above (λ d. path_open path (bind v (OfDoc d) env)) num.0)
-          → IfSome high (λ num. RulesOut Below (λ d. path_open path (bind v (OfDoc d) env)) num.0)
+      → IfSome high (λ num. RulesOut Below (λ d. path_open path (bind v (OfDoc d) env)) num.0)
       → LeavesFalse goes docs kept
   those_on docs by kept low high is_by is_kept l h =
       let late : (d : Doc) → b <ℤ d.arrival → goes d ≡ false =
-          λ d w. not_first (int_le d.arrival b) (come_by b env) (path_open path (bind v (OfDoc d) env)) (not_by d.arrival b w) in
+      λ d w. not_first (int_le d.arrival b) (come_by b env) (path_open path (bind v (OfDoc d) env)) (not_by d.arrival b w) in
       let shut : (d : Doc) → In d by → path_open path (bind v (OfDoc d) env) ≡ false
-          → goes d ≡ false = λ d i e. not_second (come_by b (bind v (OfDoc d) env)) (path_open path (bind v (OfDoc d) env)) e in
+      → goes d ≡ false = λ d i e. not_second (come_by b (bind v (OfDoc d) env)) (path_open path (bind v (OfDoc d) env)) e in
       left.left_again goes docs by (left.left_up_to goes docs b by is_by late) kept
       (left.left_by (λ d. path_open path (bind v (OfDoc d) env))
-        by kept (left.left_between (λ d. path_open path (bind v (OfDoc d) env)) by kept low high is_kept l h) goes shut)
+      by kept (left.left_between (λ d. path_open path (bind v (OfDoc d) env)) by kept low high is_kept l h) goes shut)
 
   -- a search for the rest of the path finds as much beside the rows that are left, in no more steps
   module _ (T : Tables) (order : List Reach) (rows kept : List Row)
@@ -64,7 +64,7 @@ module _ (path : List Step) (b : ℤ) (v : Var) (env : Env) where
     pub any_left : list_any (λ row. rest_of T path b order (bind v row env)) rows
         ≡ list_any (λ row. rest_of T path b order (bind v row env)) kept
     any_left = sym (left.any_left (λ row. may_go path b (bind v row env)) rows kept k (λ row. rest_of T path b order (bind v row env))
-          (λ row i e. no_rest row e))
+        (λ row i e. no_rest row e))
 
     pub until_left : (cost : Row → ℕ)
         → total cost (until (decides T path b order env v) kept) ≤ total cost (until (decides T path b order env v) rows)

@@ -152,7 +152,7 @@ module _ (entries : List Entry) (T : Tables) (p : Probe) (b : ℤ) (k : IsProbe 
               → (nat_eq step.var.0 0 ≡ true) ⊎ (nat_eq step.var.0 0 ≡ false) → In r (choices T d step)
           chosen r i l (inl e) =
               let s : r ≡ OfDoc d =
-                  some_same (sym l ∙ ap (λ z. lookup z x.final) (nat_is step.var.0 0 e) ∙ x.same 0 (row_held env 0 (OfDoc d) q) ∙ q) in
+              some_same (sym l ∙ ap (λ z. lookup z x.final) (nat_is step.var.0 0 e) ∙ x.same 0 (row_held env 0 (OfDoc d) q) ∙ q) in
               rw e (inl s)
           chosen r i l (inr e) = rw e i
 
@@ -167,7 +167,7 @@ module _ (entries : List Entry) (T : Tables) (p : Probe) (b : ℤ) (k : IsProbe 
       → IsHit entries T p b h
   pair_sound order env d h q t dr v i =
       let x =
-          hit_parts (holds_here T p b order env) b entries d h (only_one (hit_if (holds_here T p b order env) b (new_doc entries d)) h i) in
+      hit_parts (holds_here T p b order env) b entries d h (only_one (hit_if (holds_here T p b order env) b (new_doc entries d)) h i) in
       let y = and_parts (rest_of T p.path b order env) (truth T (pos 0) p.body env) x.0 in
       record {
         doc = d;
@@ -199,12 +199,12 @@ module _ (entries : List Entry) (T : Tables) (p : Probe) (b : ℤ) (k : IsProbe 
           let n = nearest_serves p.path env r (further_is p.path b env r e).1 in
           let y = from_flat (λ row. hits_over entries T p b rs (bind r.var row env)) (rows_by b r.access env T) h i in
           more (bind r.var y.0 env) (in_tables T p.path b k.once env r y.0 t (walked_row T p.path b k.once env r y.0 n y.1)) (λ j z.
-            held_more env r.var y.0 j (dr j z))
+          held_more env r.var y.0 j (dr j z))
           (value_same (base_vars p.at.base) env (bind r.var y.0 env) (λ j z. kept_on T p.path b k.once env r y.0 n j (dr j z))
-              p.at (base_own p.at.base) ∙ v) y.2
+          p.at (base_own p.at.base) ∙ v) y.2
 
       go : More → (o : Option Row) → lookup 0 env ≡ o → In h (asked_or entries T p b (x ∷ rs) env o
-            (over_rows T b env (further p.path b env) (λ r row. hits_over entries T p b rs (bind r.var row env)))) → IsHit entries T p b h
+          (over_rows T b env (further p.path b env) (λ r row. hits_over entries T p b rs (bind r.var row env)))) → IsHit entries T p b h
       go more None q i = next more (further p.path b env) refl i
       go more (Some (OfDoc d)) q i = pair_sound (x ∷ rs) env d h q t dr v i
       go more (Some (OfNote n)) q i = absurd i
@@ -248,9 +248,9 @@ module _ (entries : List Entry) (T : Tables) (p : Probe) (b : ℤ) (k : IsProbe 
         let own = q ∙ is in
         let rest = rest_complete T p.path b k.once order env c l (finds_rest env same) in
         let body : truth T (pos 0) p.body env ≡ true =
-            sym (truth_same T (pos 0) p.body (0 ∷ base_vars p.at.base) env f.env k.body (agree own)) ∙ f.body in
+        sym (truth_same T (pos 0) p.body (0 ∷ base_vars p.at.base) env f.env k.body (agree own)) ∙ f.body in
         subst (In h) (sym (doc_hits entries T p b order env d own)) (one_only (hit_if (holds_here T p b order env) b (new_doc entries d)) h
-            (hit_back (holds_here T p b order env) b entries d h (and_from _ _ rest body) u n first))
+        (hit_back (holds_here T p b order env) b entries d h (and_from _ _ rest body) u n first))
       where
         agree : lookup 0 env ≡ Some (OfDoc d) → Same (0 ∷ base_vars p.at.base) env f.env
         agree own j (inl e) = same j (ap (is_held env) e ∙ row_held env 0 (OfDoc d) own)
@@ -296,4 +296,4 @@ module _ (entries : List Entry) (T : Tables) (p : Probe) (b : ℤ) (k : IsProbe 
                 subst (In h) (sym (next_hits entries T p b x rs env r q on))
                 (to_flat (λ row. hits_over entries T p b rs (bind r.var row env)) (rows_by b r.access env T) z.0 h z.1
                 (more (bind r.var z.0 env) (same_bound env f.env r.var z.0 same z.2) (and_from _ _ z.3 c)
-                  (less _ _ _ (fewer_left T p.path b k.once env r z.0 near) l) (λ j i. held_more env r.var z.0 j (dr j i))))
+                (less _ _ _ (fewer_left T p.path b k.once env r z.0 near) l) (λ j i. held_more env r.var z.0 j (dr j i))))

@@ -23,7 +23,7 @@ module _ (path : List Step) (known : ℕ → Bool) where
   nearest_known : Option Reach
   nearest_known =
       option_or
-          (first_some (λ (step : Step). if known step.var.0 then None else option_map (reach_of step) (from_row (near_known step))) path)
+      (first_some (λ (step : Step). if known step.var.0 then None else option_map (reach_of step) (from_row (near_known step))) path)
       (option_or (first_some (λ (step : Step). if known step.var.0 then None else option_map (reach_of step) (near_known step)) path)
       (first_some (λ (step : Step). if known step.var.0 then None else Some (reach_of step (whole step.table))) path))
 

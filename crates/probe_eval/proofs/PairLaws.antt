@@ -49,7 +49,7 @@ module _ (T : Tables) (d : Doc) (b : ℤ) (p : Probe) (k : IsProbe p) (is_row : 
   back x =
       let env = bind document_var (OfDoc d) x.driver in
       rows_find T d b p k (pair_finds [] T p b k env d (bind_same document_var (OfDoc d) x.driver) (λ j i. held_more x.driver document_var
-            (OfDoc d) j (start_held T p (seek_var (seek_of p.at)) x.driver x.is_start j (driver_vars p j i))) x.at x.rest x.body)
+      (OfDoc d) j (start_held T p (seek_var (seek_of p.at)) x.driver x.is_start j (driver_vars p j i))) x.at x.rest x.body)
 
   module _ (f : Finds T d b p) where
     -- beside a start that agrees with the rows found
@@ -72,7 +72,7 @@ module _ (T : Tables) (d : Doc) (b : ℤ) (p : Probe) (k : IsProbe p) (is_row : 
 
         names : Same (0 ∷ base_vars p.at.base) (bind document_var (OfDoc d) driver) f.env
         names j (inl e) = agree j (ap (is_held (bind document_var (OfDoc d) driver)) e
-              ∙ row_held (bind document_var (OfDoc d) driver) 0 (OfDoc d) (bind_same document_var (OfDoc d) driver))
+            ∙ row_held (bind document_var (OfDoc d) driver) 0 (OfDoc d) (bind_same document_var (OfDoc d) driver))
         names j (inr z) = agree j (held j z)
 
     -- the start that has the driver's row
@@ -80,15 +80,15 @@ module _ (T : Tables) (d : Doc) (b : ℤ) (p : Probe) (k : IsProbe p) (is_row : 
     started None e = beside [] (subst (λ z. In [] (starts_of T p z)) (sym e) (inl refl)) (λ j h. absurd (none_held j h))
     started (Some v) e =
         let i = base_in p.at.base (vars_of p.path) k.at v.0 (subst (In v.0) (sym (vars_driven p.at.base))
-              (subst (λ vs. In v.0 (numbers_of vs)) (sym (driven_is p.at ∙ ap option_to_list e)) (inl refl))) in
+        (subst (λ vs. In v.0 (numbers_of vs)) (sym (driven_is p.at ∙ ap option_to_list e)) (inl refl))) in
         let s = map_in (λ (x : Step). x.var.0) p.path v.0 i in
         let x = found_rows [] T p b k d f is_row s.0 s.1 in
         let l : lookup v.0 f.env ≡ Some x.0 = ap (λ z. lookup z f.env) s.2 ∙ x.2 in
         let t : In x.0 (rows_of (table_in p.path v.0) T) =
-            subst (λ z. In x.0 (rows_of z T)) (sym (table_is p.path s.0 k.once s.1) ∙ ap (table_in p.path) (sym s.2)) x.1 in
+        subst (λ z. In x.0 (rows_of z T)) (sym (table_is p.path s.0 k.once s.1) ∙ ap (table_in p.path) (sym s.2)) x.1 in
         beside (bind v x.0 []) (subst (λ z. In (bind v x.0 []) (starts_of T p z)) (sym e)
-            (in_map (λ row. bind v row []) (rows_of (table_in p.path v.0) T) x.0 t))
-          (same_bound [] f.env v x.0 (λ j h. absurd (none_held j h)) l)
+        (in_map (λ row. bind v row []) (rows_of (table_in p.path v.0) T) x.0 t))
+        (same_bound [] f.env v x.0 (λ j h. absurd (none_held j h)) l)
 
 pub probes_test_pairs : ProbesTestPairs
 probes_test_pairs T d b p k i = ((λ h. started T d b p k i (finds_rows T d b p k h) (seek_var (seek_of p.at)) refl), back T d b p k i)

@@ -23,7 +23,7 @@ module _ (q : RangedQuery) (ps : HasValidProbes q) (T : Tables) (w : Window) whe
       let p = probe_in q.pool part.probe in
       ap (λ s. seek_cost T w p (part_order part) s (seek_var s)) part.solved
       ∙ quiet_cost T w p (part_order part) (part_probe q ps part i) (orders_serve p.path p.at.base) (part_bounded q part i)
-          (seek_var (seek_of p.at)) refl h
+      (seek_var (seek_of p.at)) refl h
 
   alone_part : (part : Ranged) → In part q.parts → PathIsDocument (probe_in q.pool part.probe)
       → part_cost T w q.pool part ≤ rows_due T w (probe_in q.pool part.probe)
@@ -31,7 +31,7 @@ module _ (q : RangedQuery) (ps : HasValidProbes q) (T : Tables) (w : Window) whe
       let p = probe_in q.pool part.probe in
       subst (λ s. seek_cost T w p (part_order part) s (seek_var s) ≤ rows_due T w p) (sym part.solved)
       (alone_cost T w p (part_order part) (part_probe q ps part i) (orders_serve p.path p.at.base) (part_bounded q part i) h
-        (seek_var (seek_of p.at)) refl)
+      (seek_var (seek_of p.at)) refl)
 
   pub query_quiet : ((p : Probe) → In p (ranged_probes q) → HasNoMark T w p) → query_cost T w q ≡ 0
   query_quiet h = total_none (part_cost T w q.pool) q.parts (λ part i.
@@ -41,4 +41,4 @@ module _ (q : RangedQuery) (ps : HasValidProbes q) (T : Tables) (w : Window) whe
   query_due h =
       subst (λ z. query_cost T w q ≤ z) (sym (total_map (rows_due T w) (λ (part : Ranged). probe_in q.pool part.probe) q.parts))
       (total_less_in (part_cost T w q.pool) (λ (part : Ranged). rows_due T w (probe_in q.pool part.probe)) q.parts (λ part i.
-        alone_part part i (h (probe_in q.pool part.probe) (in_map (λ (part : Ranged). probe_in q.pool part.probe) q.parts part i))))
+      alone_part part i (h (probe_in q.pool part.probe) (in_map (λ (part : Ranged). probe_in q.pool part.probe) q.parts part i))))

@@ -50,8 +50,12 @@ module _ (T : Tables) (path : List Step) (b : ℤ) (once : Distinct (vars_of pat
   in_tables env r row t i k j h = go (held_was env r.var row k h)
     where
       at : k ≡ r.var.0 → (row' : Row) × In row' (rows_of (table_in path k) T) × (lookup k (bind r.var row env) ≡ Some row')
-      at e = (row, subst (λ z. In row (rows_of (table_in path z) T)) (sym e) i, ap (λ z. lookup z (bind r.var row env)) e
-            ∙ bind_same r.var row env)
+      at e = (
+        row,
+        subst (λ z. In row (rows_of (table_in path z) T)) (sym e) i,
+        ap (λ z. lookup z (bind r.var row env)) e
+            ∙ bind_same r.var row env,
+      )
 
       go : (k ≡ r.var.0) ⊎ (is_held env k ≡ true)
           → (row' : Row) × In row' (rows_of (table_in path k) T) × (lookup k (bind r.var row env) ≡ Some row')
@@ -135,13 +139,13 @@ module _ (T : Tables) (path : List Step) (b : ℤ) (once : Distinct (vars_of pat
         go (Some r) e m h = absurd (false≢true h)
     rest_sound (x ∷ rs) env t h =
         let p = and_parts (may_go path b env)
-            (all_or (nearest path env) (λ r. list_any (λ row. rest_of T path b rs (bind r.var row env)) (rows_by b r.access env T))) h in
+        (all_or (nearest path env) (λ r. list_any (λ row. rest_of T path b rs (bind r.var row env)) (rows_by b r.access env T))) h in
         go (λ e. rest_sound rs e) (nearest path env) refl p.0 p.1
       where
         go : ((e : Env) → InTables T path e → rest_of T path b rs e ≡ true → Rest T path b e) → (o : Option Reach) → nearest path env ≡ o
             → may_go path b env ≡ true
             → all_or o (λ r. list_any (λ row. rest_of T path b rs (bind r.var row env)) (rows_by b r.access env T)) ≡ true
-                → Rest T path b env
+            → Rest T path b env
         go more None e m h = there env t m e
         go more (Some r) e m h =
             let k = nearest_serves path env r e in
@@ -163,7 +167,7 @@ module _ (T : Tables) (path : List Step) (b : ℤ) (once : Distinct (vars_of pat
       let y = x.rows k.step k.is_step in
       let e : lookup r.var.0 x.final ≡ Some y.0 = ap (λ (v : Var). lookup v.0 x.final) k.var ∙ y.2 in
       let i : In y.0 (rows_of (table_in path r.var.0) T) = subst (λ (v : Var). In y.0 (rows_of (table_in path v.0) T)) (sym k.var)
-          (subst (λ t. In y.0 (rows_of t T)) (sym (table_is path k.step once k.is_step)) y.1) in
+      (subst (λ t. In y.0 (rows_of t T)) (sym (table_is path k.step once k.is_step)) y.1) in
       (y.0, walks_row env x.final r y.0 k x.same e i y.3 x.guards, e, y.3)
 
   pub rest_complete : (order : List Reach) (env : Env) → come_by b env ≡ true → left_of path env ≤ length order → Rest T path b env

@@ -57,7 +57,7 @@ module _ (env : Env) (T : Tables) (row : Row) where
   to_referenced v i h =
       let x = one_had (on_row (lookup v.0 env) (list_field References)) (text_field MsgId row) h in
       to_flat (docs_of_id T) (references_of v env) x.0 row
-        x.1 (to_filter (λ row. both_texts Eq (text_field MsgId row) (Some x.0)) (rows_of Docs T) row i x.2)
+      x.1 (to_filter (λ row. both_texts Eq (text_field MsgId row) (Some x.0)) (rows_of Docs T) row i x.2)
 
   pub in_rows : (b : ℤ) (a : Access) → In row (rows_by b a env T) → In row (rows_of (table_of a) T)
   in_rows b (ReferencedBy v) i = (in_referenced v i).0

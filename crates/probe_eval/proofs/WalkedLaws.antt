@@ -91,7 +91,7 @@ module _ (entries : List Entry) (T : Tables) (p : Probe) (b : ℤ) (env : Env) (
   none_over [] = not_asked [] (lookup 0 env)
   none_over (x ∷ rs) =
       ap (λ o. asked_or entries T p b (x ∷ rs) env (lookup 0 env)
-          (over_rows T b env o (λ r row. hits_over entries T p b rs (bind r.var row env)))) no_further
+      (over_rows T b env o (λ r row. hits_over entries T p b rs (bind r.var row env)))) no_further
       ∙ not_asked (x ∷ rs) (lookup 0 env)
 
 flat_filter : {A B : Type 0} (f : A → List B) (q : A → Bool) (xs : List A) → ((x : A) → q x ≡ false → f x ≡ [])
@@ -116,12 +116,12 @@ module _ (T : Tables) (w : Window) (p : Probe) (seek : Seek) (v : Var) where
   -- the rows that are left out have no hits
   pub walked_hits : (entries : List Entry) (order : List Reach)
       → flat_map (λ row. hits_at entries T w p order (bind v row [])) (walked T w p seek v)
-          ≡ flat_map (λ row. hits_at entries T w p order (bind v row [])) (driving T w p seek v)
+      ≡ flat_map (λ row. hits_at entries T w p order (bind v row [])) (driving T w p seek v)
   walked_hits entries order = go (chosen T v p.path seek (table_in p.path v.0)) refl
     where
       go : (o : Option Atom) → chosen T v p.path seek (table_in p.path v.0) ≡ o
           → flat_map (λ row. hits_at entries T w p order (bind v row [])) (rows_where v o (driving T w p seek v))
-              ≡ flat_map (λ row. hits_at entries T w p order (bind v row [])) (driving T w p seek v)
+          ≡ flat_map (λ row. hits_at entries T w p order (bind v row [])) (driving T w p seek v)
       go None e = refl
       go (Some a) e = flat_filter (λ row. hits_at entries T w p order (bind v row [])) (λ row. true_atom a (bind v row []))
           (driving T w p seek v) (none_beside entries order a e)
@@ -143,7 +143,7 @@ module _ (T : Tables) (w : Window) (p : Probe) (seek : Seek) (v : Var) where
   -- with a chosen guard they are the documents of the window of which it is true
   pub walked_is : (a : Atom) → chosen T v p.path seek (table_in p.path v.0) ≡ Some a
       → filter (λ row. true_atom a (bind v row []))
-          (map OfDoc (in_window doc_arrival (seek_window w seek).low (seek_window w seek).high T.docs)) ≡ walked T w p seek v
+      (map OfDoc (in_window doc_arrival (seek_window w seek).low (seek_window w seek).high T.docs)) ≡ walked T w p seek v
   walked_is a e =
       ap (filter (λ row. true_atom a (bind v row []))) (sym (chosen_rows T v a p.path seek (table_in p.path v.0) (seek_window w seek) e))
       ∙ ap (λ o. rows_where v o (driving T w p seek v)) (sym e)

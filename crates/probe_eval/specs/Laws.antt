@@ -54,7 +54,7 @@ RestsAreFound =
     (T : Tables) (path : List Step) (b : ℤ) (order : List Reach) (env : Env) → Distinct (vars_of path)
     → ((step : Step) → In step path → (a : Atom) → In a step.guards → AtomIn (vars_of path) a)
     → InTables T path env → come_by b env ≡ true → left_of path env ≤ length order
-        → ((rest_of T path b order env ≡ true) ↔ Rest T path b env)
+    → ((rest_of T path b order env ≡ true) ↔ Rest T path b env)
 
 -- if no guard names v and another variable that has no row yet, the rest exists beside all rows of v that may go on, or beside none
 abbrev pub RestsAreAlike : Type 0
@@ -68,4 +68,4 @@ abbrev pub ListsNeedNoTest : Type 0
 ListsNeedNoTest =
     (entries : List Entry) (T : Tables) (w : Window) (p : Probe) (order : List Reach) (seek : Seek) (v : Var) → goes_by_list p seek v ≡ true
     → flat_map (λ row. hits_at entries T w p order (bind v row [])) (walked T w p seek v)
-        ≡ flat_map (listed_hits entries w p v) (walked T w p seek v)
+    ≡ flat_map (listed_hits entries w p v) (walked T w p seek v)

@@ -110,12 +110,12 @@ fn later_answer<'a, L: Ledger>(
     requires { CanEvaluateInner search.now inner.0 env.now }
     ensures truth { is_true result ≡ list_any
         (λ row. truth search.now.index.now (pos 0) (condition_at search.now inner.0)
-              (bind of row env.now)) rows.entry }
+        (bind of row env.now)) rows.entry }
     ensures never { (table : Table) → result ≡ Never → IsNever search.now.index.now var
         (Exists of table (condition_at search.now inner.0)) env.now }
     ensures steps { steps.new ≤ steps.old + total
         (λ row. 1 + work search.now.index.now (condition_at search.now inner.0)
-              (bind of row env.now)) rows.entry }
+        (bind of row env.now)) rows.entry }
     ensures more { steps.old ≤ steps.new }
 {
     match rows.next(steps) {

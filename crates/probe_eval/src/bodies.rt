@@ -93,10 +93,10 @@ fn any_later<'a, L: Ledger>(
     requires { CanEvaluateInner search.now inner.0 env.now }
     ensures truth { result ≡ list_any
         (λ row. truth search.now.index.now (pos 0) (condition_at search.now inner.0)
-              (bind var row env.now)) rows.entry }
+        (bind var row env.now)) rows.entry }
     ensures steps { steps.new ≤ steps.old + total
         (λ row. 1 + work search.now.index.now (condition_at search.now inner.0)
-              (bind var row env.now)) rows.entry }
+        (bind var row env.now)) rows.entry }
     ensures more { steps.old ≤ steps.new }
 {
     match rows.next(steps) {
@@ -123,10 +123,10 @@ pub(crate) fn any_own<'a, L: Ledger>(
     requires { CanEvaluateInner search.now inner.0 env.now }
     ensures truth { result ≡ list_any
         (λ row. truth search.now.index.now (pos 0) (own_part var (condition_at search.now inner.0))
-              (bind var row env.now)) rows.entry }
+        (bind var row env.now)) rows.entry }
     ensures steps { steps.new ≤ steps.old + total
         (λ row. 1 + work search.now.index.now (own_part var (condition_at search.now inner.0))
-              (bind var row env.now)) rows.entry }
+        (bind var row env.now)) rows.entry }
     ensures more { steps.old ≤ steps.new }
 {
     while let Some(row) = rows.next(steps) {

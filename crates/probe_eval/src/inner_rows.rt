@@ -40,7 +40,7 @@ fn bound_in(pool: &Pool<TNode>, body: NodeId, side: Side, var: Var, env: &Env) -
     requires { IsPlaceOf pool.now body.0 }
     ensures { IfSome result (λ num. (T : Tables)
         → RulesOut side
-            (λ d. truth T (pos 0) (tree_at pool.now body.0) (bind var (OfDoc d) env.now)) num.0) }
+        (λ d. truth T (pos 0) (tree_at pool.now body.0) (bind var (OfDoc d) env.now)) num.0) }
 {
     match node_at(pool, body) {
         TNode::Plain(guard) => bound_by(guard, side, var, env),
@@ -82,7 +82,7 @@ fn second_beside(time: Term, var: Var, env: &Env) -> Option<i64>
 fn last_arrival(time: Term, bound: Term, var: Var, env: &Env) -> Option<i64>
     ensures { IfSome result (λ last.
         ArrivesBy (λ row. both Le (value time (bind var row env.now))
-              (value bound (bind var row env.now))) last) }
+        (value bound (bind var row env.now))) last) }
 {
     if is_arrival(time, var) {
         second_beside(bound, var, env)
@@ -109,7 +109,7 @@ fn last_in(pool: &Pool<TNode>, body: NodeId, var: Var, env: &Env) -> Option<i64>
     requires { IsPlaceOf pool.now body.0 }
     ensures { IfSome result (λ last. (T : Tables)
         → ArrivesBy (λ row. truth T (pos 0) (tree_at pool.now body.0) (bind var row env.now))
-            last) }
+        last) }
 {
     match node_at(pool, body) {
         TNode::Plain(guard) => last_by(guard, var, env),
@@ -165,7 +165,7 @@ pub(crate) fn rows_left<'a>(
         truth search.now.index.now (pos 0) (condition_at search.now inner.0) (bind var row env.now))
         (reached search.now.index.now var table (condition_at search.now inner.0) env.now) result }
     ensures steps { total (λ row. 1 + work search.now.index.now (condition_at search.now inner.0)
-          (bind var row env.now)) result
+        (bind var row env.now)) result
         ≤ work search.now.index.now (Exists var table (condition_at search.now inner.0)) env.now }
 {
     // Brings into scope that no row arrived after the last second.

@@ -102,7 +102,7 @@ pub fn next_level<'a, L: Ledger>(
     ensures steps { (sure : Bool)
         → steps.new + level_cost search.now.index.now (searched search.now) mark env.now result
         ≤ steps.old
-            + work_over search.now.index.now (searched search.now) mark sure order.now env.now }
+        + work_over search.now.index.now (searched search.now) mark sure order.now env.now }
     ensures more { steps.old ≤ steps.new }
 {
     let path = search.probe.path.as_slice();

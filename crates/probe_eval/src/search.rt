@@ -61,7 +61,7 @@ fn has_rest<'a, L: Ledger>(
         ≡ rest_of search.now.index.now search.now.probe.now.path mark order.now env.now }
     ensures next { IsNearestIfKnown search.now.probe.now.path env.now next.new }
     ensures steps { steps.new ≤ steps.old + (if sure then 0
-          else rest_cost search.now.index.now search.now.probe.now.path mark order.now env.now) }
+        else rest_cost search.now.index.now search.now.probe.now.path mark order.now env.now) }
     ensures more { steps.old ≤ steps.new }
 {
     let path = search.probe.path.as_slice();

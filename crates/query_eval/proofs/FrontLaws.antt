@@ -294,7 +294,7 @@ module _ (s : Search) (into : LeastHits) (b : ℤ) (rest : List Reach) (env : En
       into.hits.items (flat_map over rows) ≡ keeping (length into.places.items) into.hits.items (flat_map over left)
   behind_hits rows left w =
       let none : (row : Row) → In row w.others → w.leaves.keeps row ≡ false
-          → over row ≡ [] = λ row i e. none_over s.seen.now s.index.now (searched s) b (bind v row env) (w.leaves.refused row i e) rest in
+      → over row ≡ [] = λ row i e. none_over s.seen.now s.index.now (searched s) b (bind v row env) (w.leaves.refused row i e) rest in
       ap (λ rs. stored (flat_map over rs)) w.rows_are
       ∙ all_passed w.passed w.others w.query_var w.done
       ∙ ap stored (flat_kept over w.leaves.keeps w.others none)

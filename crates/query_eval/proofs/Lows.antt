@@ -50,8 +50,11 @@ apart_le (z ∷ zs) k x a (inr i) (inl q) d = absurd (a.0 k i (sym d ∙ ap (λ 
 apart_le (z ∷ zs) k x a (inr i) (inr j) d = apart_le zs k x a.1 i j d
 
 pub lowered_is : (xs : List Hit) (h k : Hit) → HitsAreApart xs → In k (with_lowered xs h) → IsLow xs h k
-lowered_is [] h k a (inl e) = record { from = inl e;
-      new = λ d. subst (λ (z : Hit). int_le z.first h.first ≡ true) (sym e) (le_self h.first); old = λ x i d. absurd i }
+lowered_is [] h k a (inl e) = record {
+  from = inl e;
+  new = λ d. subst (λ (z : Hit). int_le z.first h.first ≡ true) (sym e) (le_self h.first);
+  old = λ x i d. absurd i;
+}
 lowered_is [] h k a (inr i) = absurd i
 lowered_is (x ∷ xs) h k a i = elim (cases_Bool (nat_eq x.doc.0 h.doc.0)) [
   | inl e ↦ here (nat_is x.doc.0 h.doc.0 e) (rw e at i)

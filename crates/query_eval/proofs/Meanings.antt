@@ -102,7 +102,7 @@ module _ (seen : Doc → Bool) (X : List Probe) (T : Tables) (w : Window) (numbe
           let other : Hit = record { doc = g.doc.num; first = m.0 } in
           let o = all.complete other (found_least seen X T w other g.doc g.is_row g.unseen refl m.1) in
           let e : h.first ≡ m.0 =
-              antisym h.first m.0 (le_back h.first m.0 (kept.least h other i o (sym (ap (λ (z : DocNum). z.0) g.num)))) m.2 in
+          antisym h.first m.0 (le_back h.first m.0 (kept.least h other i o (sym (ap (λ (z : DocNum). z.0) g.num)))) m.2 in
           in_meaning seen X T w h g.doc g.is_row g.unseen g.num (m.1 ∙ ap Some (sym e))
 
       back : (h : Hit) → In h (meaning_without seen X T w) → In h zs
@@ -112,7 +112,7 @@ module _ (seen : Doc → Bool) (X : List Probe) (T : Tables) (w : Window) (numbe
           let k = kept.all h here in
           let g = all.sound k.0 (kept.among k.0 k.1) in
           let d : g.doc ≡ m.0 = same_doc 1 T.docs g.doc m.0 numbered
-              g.is_row m.1 (sym (ap (λ (z : DocNum). z.0) g.num) ∙ k.2 ∙ ap (λ (z : DocNum). z.0) m.3) in
+          g.is_row m.1 (sym (ap (λ (z : DocNum). z.0) g.num) ∙ k.2 ∙ ap (λ (z : DocNum). z.0) m.3) in
           let at : found X T m.0 k.0.first ≡ true = subst (λ d. found X T d k.0.first ≡ true) d g.at in
           let up = least_least (found X T m.0) w.low w.high h.first k.0.first m.4 g.low at in
           let down = le_back k.0.first h.first (kept.least k.0 h k.1 here (sym k.2)) in
@@ -149,9 +149,9 @@ pub finished : (seen : Doc → Bool) (X : List Probe) (T : Tables) (w : Window) 
 finished seen X T w hits kept sorted same order k arrived found =
     let all = kept_all (λ y. ⊥) [] hits none_kept in
     let l : AreLowest (λ y. In y hits) (lowest [] hits) =
-        lowest_same (λ y. ⊥ ⊎ In y hits) (λ y. In y hits) (lowest [] hits) (λ y d. right y d) (λ y i. inr i) all in
+    lowest_same (λ y. ⊥ ⊎ In y hits) (λ y. In y hits) (lowest [] hits) (λ y d. right y d) (λ y i. inr i) all in
     lowest_law seen X T w hits sorted arrived found
-      (lowest_moved (λ y. In y hits) kept sorted same (subst (λ z. AreLowest (λ y. In y hits) z) (sym k) l)) order
+    (lowest_moved (λ y. In y hits) kept sorted same (subst (λ z. AreLowest (λ y. In y hits) z) (sym k) l)) order
   where
     right : (y : Hit) → ⊥ ⊎ In y hits → In y hits
     right y (inl d) = absurd d

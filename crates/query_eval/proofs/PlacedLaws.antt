@@ -121,7 +121,7 @@ pub kept_lower : (hs : List Hit) (ps : List ℕ) (h : Hit) (place : ℕ) (d : Hi
 kept_lower hs ps h place d p k t =
     let x = there hs ps p h.doc.0 place k t in
     lowered_present hs place x.0 h x.1 x.2 (none_before hs ps p h.doc.0 place k)
-      ∙ ap (λ y. slice_set hs place (lower y h)) (sym (get_or_is hs place x.0 d x.1))
+    ∙ ap (λ y. slice_set hs place (lower y h)) (sym (get_or_is hs place x.0 d x.1))
 
 lower_doc : (x h : Hit) → x.doc.0 ≡ h.doc.0 → (lower x h).doc.0 ≡ x.doc.0
 lower_doc x h e =
@@ -147,10 +147,10 @@ placed_lower hs ps h place d p k t = λ j y g. go j y g (there hs ps p h.doc.0 p
           | inl b ↦
               let e : place ≡ j = nat_is place j b in
               let s : slice_get (slice_set hs place (lower (slice_index_or hs place d) h)) place
-                  ≡ Some (lower (slice_index_or hs place d) h) = set_same hs place _ (get_below hs place x.0 x.1) in
+              ≡ Some (lower (slice_index_or hs place d) h) = set_same hs place _ (get_below hs place x.0 x.1) in
               let q : y ≡ lower x.0 h =
-                  some_same (sym g ∙ ap (λ n. slice_get (slice_set hs place (lower (slice_index_or hs place d) h)) n) (sym e) ∙ s)
-                  ∙ ap (λ z. lower z h) o in
+              some_same (sym g ∙ ap (λ n. slice_get (slice_set hs place (lower (slice_index_or hs place d) h)) n) (sym e) ∙ s)
+              ∙ ap (λ z. lower z h) o in
               moved j x.0 y (ap (λ n. slice_get hs n) (sym e) ∙ x.1) (ap (λ (z : Hit). z.doc.0) q ∙ lower_doc x.0 h x.2)
           | inr b ↦
               let n : place ≡ j → ⊥ = λ e. both_ways (nat_eq place j) b (nat_yes place j e) in
@@ -179,9 +179,11 @@ placed_append hs ps h p n a w = λ k x g. go k x (get_onto hs h x k g)
     go k x (inr e) =
         let d : h.doc.0 ≡ x.doc.0 = ap (λ (z : Hit). z.doc.0) (sym e.1) in
         let s : slice_get (slice_set ps (h.doc.0 - 1) (length hs)) (h.doc.0 - 1) ≡ Some (length hs) =
-            set_same ps (h.doc.0 - 1) (length hs) (omega (arith, a, w)) in
-        (subst (λ z. 0 < z) d a, subst (λ z. z ≤ length (slice_set ps (h.doc.0 - 1) (length hs))) d (subst (λ z. h.doc.0 ≤ z) (sym len) w),
-          subst (λ z. slice_get (slice_set ps (h.doc.0 - 1) (length hs)) (z - 1) ≡ Some k) d (s ∙ ap (λ z. Some z) (sym e.0)))
+        set_same ps (h.doc.0 - 1) (length hs) (omega (arith, a, w)) in (
+          subst (λ z. 0 < z) d a,
+          subst (λ z. z ≤ length (slice_set ps (h.doc.0 - 1) (length hs))) d (subst (λ z. h.doc.0 ≤ z) (sym len) w),
+          subst (λ z. slice_get (slice_set ps (h.doc.0 - 1) (length hs)) (z - 1) ≡ Some k) d (s ∙ ap (λ z. Some z) (sym e.0)),
+        )
 
 pub kept_append : (hs : List Hit) (ps : List ℕ) (h : Hit) (place : ℕ) → IsPlaced hs ps → slice_get ps (h.doc.0 - 1) ≡ Some place
     → has_hit_at hs place h.doc.0 ≡ false → with_lowered hs h ≡ hs ++ h ∷ []
@@ -211,9 +213,11 @@ head_apart n k x y ps a b e = further n k (some_same (sym a ∙ ap (λ z. slice_
 distinct_keys : (n : ℕ) (hs : List Hit) (ps : List ℕ) → FromPlace n hs ps → IsDistinct nat_eq (keys hs)
 unfolding IsDistinct
 distinct_keys n [] ps f = tt
-distinct_keys n (x ∷ hs) ps f =
-    (key_apart (x.doc.0 - 1) hs (λ k y g e. head_apart n k x y ps (f 0 x refl) (f (suc k) y g) e), distinct_keys (n + 1) hs ps (λ k y g.
-      let e : n + suc k ≡ n + 1 + k = omega arith in subst (λ z. slice_get ps (y.doc.0 - 1) ≡ Some z) e (f (suc k) y g)))
+distinct_keys n (x ∷ hs) ps f = (
+  key_apart (x.doc.0 - 1) hs (λ k y g e. head_apart n k x y ps (f 0 x refl) (f (suc k) y g) e),
+  distinct_keys (n + 1) hs ps (λ k y g.
+      let e : n + suc k ≡ n + 1 + k = omega arith in subst (λ z. slice_get ps (y.doc.0 - 1) ≡ Some z) e (f (suc k) y g)),
+)
 
 keys_below : (n : ℕ) (hs : List Hit) → ((k : ℕ) (x : Hit) → slice_get hs k ≡ Some x → x.doc.0 - 1 < n) → (q : ℕ)
     → list_any (nat_eq q) (keys hs) ≡ true → q < n
@@ -243,8 +247,10 @@ fewer_hits hs ps h p n a w =
     each (suc k) x g = let q = p k x g in let q0 = q.0 in let q1 = q.1 in omega (arith, q0, q1)
 
     distinct : IsDistinct nat_eq (keys (h ∷ hs))
-    distinct = (key_apart (h.doc.0 - 1) hs (λ k y g e. apart_places y.doc.0 h.doc.0 (p k y g).0 a (n k y g) e),
-          distinct_keys 0 hs ps (λ k y g. (p k y g).2 ∙ ap (λ z. Some z) (zero_plus k)))
+    distinct = (
+      key_apart (h.doc.0 - 1) hs (λ k y g e. apart_places y.doc.0 h.doc.0 (p k y g).0 a (n k y g) e),
+      distinct_keys 0 hs ps (λ k y g. (p k y g).2 ∙ ap (λ z. Some z) (zero_plus k)),
+    )
       where
         zero_plus : (k : ℕ) → k ≡ 0 + k
         zero_plus k = omega arith
@@ -273,8 +279,11 @@ in_at (z ∷ zs) x (inr i) = let r = in_at zs x i in (suc r.0, r.1)
 
 apart_from : (n : ℕ) (hs : List Hit) (ps : List ℕ) → FromPlace n hs ps → HitsAreApart hs
 apart_from n [] ps f = tt
-apart_from n (x ∷ hs) ps f = (apart, apart_from (n + 1) hs ps (λ k y g. let e : n + suc k ≡ n + 1 + k = omega arith in
-      subst (λ z. slice_get ps (y.doc.0 - 1) ≡ Some z) e (f (suc k) y g)))
+apart_from n (x ∷ hs) ps f = (
+  apart,
+  apart_from (n + 1) hs ps (λ k y g. let e : n + suc k ≡ n + 1 + k = omega arith in
+      subst (λ z. slice_get ps (y.doc.0 - 1) ≡ Some z) e (f (suc k) y g)),
+)
   where
     apart : (y : Hit) → In y hs → y.doc.0 ≡ x.doc.0 → ⊥
     apart y i d = let r = in_at hs y i in head_apart n r.0 x y ps (f 0 x refl) (f (suc r.0) y r.1) (ap (λ z. z - 1) (sym d))

@@ -65,7 +65,7 @@ hits_kept q entries T w n ks now ps num room none k =
     placed h i =
         let f = (query_found q ps entries T w).sound h i in
         place h.doc.0
-            (subst (λ (z : DocNum). (1 ≤ z.0) × (z.0 < 1 + length T.docs)) (sym f.num) (number_within 1 T.docs f.doc num f.is_row))
+        (subst (λ (z : DocNum). (1 ≤ z.0) × (z.0 < 1 + length T.docs)) (sym f.num) (number_within 1 T.docs f.doc num f.is_row))
 
 -- the numbers below one
 abbrev below : ℕ → List ℕ

@@ -98,7 +98,7 @@ lowered_stays (x ∷ xs) h g e = elim (cases_Bool (nat_eq x.doc.0 h.doc.0)) [
             let d = lower_doc x g (doc_is x.doc.0 g.doc.0 r) in
             subst (λ zs. with_lowered zs h ≡ zs) (sym (at_same x xs g r))
             (stays_head (lower x g) xs h (subst (λ k. nat_eq k h.doc.0 ≡ true) (sym d) q)
-              (le_after (lower x g).first x.first h.first (lower_le x g) l))
+            (le_after (lower x g).first x.first h.first (lower_le x g) l))
         | inr r ↦ subst (λ zs. with_lowered zs h ≡ zs) (sym (at_other x xs g r)) (stays_head x (with_lowered xs g) h q l)
       ]
   | inr q ↦
@@ -107,9 +107,10 @@ lowered_stays (x ∷ xs) h g e = elim (cases_Bool (nat_eq x.doc.0 h.doc.0)) [
         | inl r ↦
             let d = lower_doc x g (doc_is x.doc.0 g.doc.0 r) in
             subst (λ zs. with_lowered zs h ≡ zs) (sym (at_same x xs g r))
-              (stays_tail (lower x g) xs h (subst (λ k. nat_eq k h.doc.0 ≡ false) (sym d) q) rest)
+            (stays_tail (lower x g) xs h (subst (λ k. nat_eq k h.doc.0 ≡ false) (sym d) q) rest)
         | inr r ↦
-          subst (λ zs. with_lowered zs h ≡ zs) (sym (at_other x xs g r)) (stays_tail x (with_lowered xs g) h q (lowered_stays xs h g rest))
+            subst (λ zs. with_lowered zs h ≡ zs) (sym (at_other x xs g r))
+            (stays_tail x (with_lowered xs g) h q (lowered_stays xs h g rest))
       ]
 ]
 
@@ -189,7 +190,7 @@ module _ (entries : List Entry) (n : ℕ) where
         any_left_out kept passed mark (new_doc entries d)
         (λ m i.
         hit_later n kept (record { doc = num; first = b }) (record { doc = m; first = mark })
-            (ap (λ (z : DocNum). z.0) (sym q ∙ new_is d m i))
+        (ap (λ (z : DocNum). z.0) (sym q ∙ new_is d m i))
         (le_is b mark l)
         e);
   }

@@ -15,7 +15,7 @@ module _ {A : Type 0} where
       ≡ keeping n kept (flat_map f rows) → rows ≡ r ∷ left → now ≡ keeping n kept (f r) → k ≡ n → whole ≡ keeping k now (flat_map f left)
   hits_step f whole n k kept now rows left r h e g q =
       h ∙ ap (λ z. keeping n kept (flat_map f z)) e ∙ keeping_append n kept (f r) (flat_map f left)
-        ∙ ap (λ z. keeping n z (flat_map f left)) (sym g) ∙ ap (λ z. keeping z now (flat_map f left)) (sym q)
+      ∙ ap (λ z. keeping n z (flat_map f left)) (sym g) ∙ ap (λ z. keeping z now (flat_map f left)) (sym q)
 
   -- if no row that is left has a hit, those so far are all
   pub hits_end : (f : A → List Hit) (whole : List Hit) (n k : ℕ) (kept now : List Hit) (rows left : List A) (r : A)

@@ -123,7 +123,7 @@ impl Fronts {
         ensures { (entries : List Entry) (docs : List Doc) (n : ℕ) (kept : List Hit)
             → ArePassed entries docs n kept self.old.fronts.items
             → IsFrontPassed entries docs n kept front
-                → ArePassed entries docs n kept self.new.fronts.items }
+            → ArePassed entries docs n kept self.new.fronts.items }
     {
         let under = front.first as usize;
         if under >= self.places.len() {

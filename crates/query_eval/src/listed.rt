@@ -66,7 +66,7 @@ pub(crate) fn collect_listed<'a, L: Ledger>(
     requires ready { CanStoreHits into.old }
     ensures hits { Stores into.old into.new
         (flat_map (listed_hits search.now.seen.now w (searched search.now) var)
-            (walked search.now.index.now w (searched search.now) seek var)) }
+        (walked search.now.index.now w (searched search.now) seek var)) }
     ensures ready { CanStoreHits into.new }
     ensures places { length into.new.places.items ≡ length into.old.places.items }
     ensures steps { steps.new

@@ -37,7 +37,7 @@ fn collect_at<'a, L: Ledger>(
     requires fronts { AreDone search.now into.old fronts.old }
     ensures hits { Stores into.old into.new
         (hits_at search.now.seen.now search.now.index.now w (searched search.now)
-            order.now env.now) }
+        order.now env.now) }
     ensures next { IsNearestIfKnown search.now.probe.now.path env.now next.new }
     ensures ready { CanStoreHits into.new }
     ensures places { length into.new.places.items ≡ length into.old.places.items }
@@ -69,7 +69,7 @@ fn collect_driven<'a, L: Ledger>(
     requires fronts { AreDone search.now into.old fronts.old }
     ensures hits { Stores into.old into.new
         (driven_hits search.now.seen.now search.now.index.now w (searched search.now) order.now seek
-            var) }
+        var) }
     ensures ready { CanStoreHits into.new }
     ensures places { length into.new.places.items ≡ length into.old.places.items }
     ensures fronts { AreDone search.now into.new fronts.new }
@@ -112,7 +112,7 @@ fn collect_walked<'a, L: Ledger>(
     requires fronts { AreDone search.now into.old fronts.old }
     ensures hits { Stores into.old into.new
         (driven_hits search.now.seen.now search.now.index.now w (searched search.now) order.now seek
-            var) }
+        var) }
     ensures ready { CanStoreHits into.new }
     ensures places { length into.new.places.items ≡ length into.old.places.items }
     ensures fronts { AreDone search.now into.new fronts.new }
@@ -144,7 +144,7 @@ pub(crate) fn collect_part<'a, L: Ledger>(
     requires fronts { AreDone search.now into.old fronts.old }
     ensures hits { Stores into.old into.new
         (seek_hits search.now.seen.now search.now.index.now w (searched search.now) order.now seek
-            (seek_var seek)) }
+        (seek_var seek)) }
     ensures ready { CanStoreHits into.new }
     ensures places { length into.new.places.items ≡ length into.old.places.items }
     ensures fronts { AreDone search.now into.new fronts.new }

@@ -19,8 +19,11 @@ use Rattle.time_marks.specs.Probes.{Probe}
 use Rattle.time_marks.specs.Views.{probe_in}
 
 old_probe : Probe
-old_probe = record { path = record { var = document_var; table = Docs; guards = [] } ∷ [];
-      at = record { base = Arrival document_var; plus = pos 5 }; body = Always }
+old_probe = record {
+  path = record { var = document_var; table = Docs; guards = [] } ∷ [];
+  at = record { base = Arrival document_var; plus = pos 5 };
+  body = Always;
+}
 
 is_probe : IsProbe old_probe
 unfolding old_probe
@@ -39,8 +42,11 @@ tree_is nodes id e = ap (λ o. node_tree o (tree nodes id)) e
 
 -- the probe in the code
 abbrev pub old_code : ℕ → CodeProbe
-old_code id = record { path = record { var = document_var; table = Docs; guards = [] } ∷ [];
-      at = record { base = Arrival document_var; plus = pos 5 }; body = record { 0 = id } }
+old_code id = record {
+  path = record { var = document_var; table = Docs; guards = [] } ∷ [];
+  at = record { base = Arrival document_var; plus = pos 5 };
+  body = record { 0 = id };
+}
 
 pub are_probes : (nodes : List TNode) (parts : List Ranged) (id : ℕ) → map (λ (part : Ranged). part.probe) parts ≡ old_code id ∷ []
     → slice_get nodes id ≡ Some N.True → (x : Probe) → In x (map (λ (part : Ranged). probe_in nodes part.probe) parts) → IsProbe x
@@ -57,8 +63,11 @@ are_probes nodes parts id e t x i = subst IsProbe (sym (only (subst (In x) (twic
     only (inr h) = absurd h
 
     whole : probe_in nodes (old_code id) ≡ old_probe
-    whole = ap (λ y. record { path = record { var = document_var; table = Docs; guards = [] } ∷ [];
-            at = record { base = Arrival document_var; plus = pos 5 }; body = y }) (tree_is nodes id t)
+    whole = ap (λ y. record {
+      path = record { var = document_var; table = Docs; guards = [] } ∷ [];
+      at = record { base = Arrival document_var; plus = pos 5 };
+      body = y;
+    }) (tree_is nodes id t)
 
 -- its query keeps what queries keep
 get_less : (nodes : List TNode) (id : ℕ) (node : TNode) → slice_get nodes id ≡ Some node → id < length nodes

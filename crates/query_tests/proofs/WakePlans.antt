@@ -51,10 +51,10 @@ unfolding probe_at
 three_probes nodes parts id e t x i =
     let a = map_in (λ (part : Ranged). probe_in nodes part.probe) parts x i in
     let b = map_in (sample_probe id) sample_marks
-        a.0.probe (subst (λ z. In a.0.probe z) e (in_map (λ (part : Ranged). part.probe) parts a.0 a.1)) in
+    a.0.probe (subst (λ z. In a.0.probe z) e (in_map (λ (part : Ranged). part.probe) parts a.0 a.1)) in
     let q : x ≡ probe_at b.0 = a.2 ∙ ap (probe_in nodes) b.2
-        ∙ ap (λ y. record { path = record { var = document_var; table = Docs; guards = [] } ∷ []; at = b.0; body = y })
-        (tree_is nodes id t) in
+    ∙ ap (λ y. record { path = record { var = document_var; table = Docs; guards = [] } ∷ []; at = b.0; body = y })
+    (tree_is nodes id t) in
     subst IsProbe (sym q) (is_probe b.0 (marks_own b.0 b.1))
 
 -- its query keeps what queries keep

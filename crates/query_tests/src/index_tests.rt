@@ -15,8 +15,15 @@ use tap_rows::Note;
 
 // Returns a note without texts.
 fn blank_note(alloc: Global, num: u32, doc: u32, arrival: i64) -> Note
-    ensures { result ≡ record { num = record { 0 = num }; doc = record { 0 = doc }; author = [];
-          kind = []; value = pos 0; arrival = arrival; text = [] } }
+    ensures { result ≡ record {
+      num = record { 0 = num };
+      doc = record { 0 = doc };
+      author = [];
+      kind = [];
+      value = pos 0;
+      arrival = arrival;
+      text = [];
+    } }
 {
     Note {
         num: NoteNum(num),

@@ -48,7 +48,7 @@ four false b c d e w x y z = refl
 
 five : (a b c d e f : Bool) (v w x y z : Why)
     → is_none (first_reason (first_reason (damaged_unless a v ∷ damaged_unless b w ∷ damaged_unless (c && d) x ∷ []) ∷ damaged_unless e y
-        ∷ damaged_unless f z ∷ [])) ≡ ((a && b && c && d && e) && f)
+    ∷ damaged_unless f z ∷ [])) ≡ ((a && b && c && d && e) && f)
 five true true true true true true v w x y z = refl
 five true true true true true false v w x y z = refl
 five true true true true false f v w x y z = refl
@@ -88,7 +88,7 @@ docs-none : (place : ℕ) (low : ℤ) (docs : List Doc) → is_none (docs_damage
 docs-none place low [] = refl
 docs-none place low (doc ∷ docs) =
     rows-none Docs place (doc_reason place low doc) (docs_damage (place + 1) doc.arrival docs) (doc_stands place low doc)
-      (docs_stand (place + 1) doc.arrival docs)
+    (docs_stand (place + 1) doc.arrival docs)
     (three (doc.num.0 == place) (may_follow low doc.arrival) (nat_le (length doc.text) 1048576) Number Moment Text)
     (docs-none (place + 1) doc.arrival docs)
 
@@ -97,9 +97,9 @@ notes-none : (docs : List Doc) (place : ℕ) (low : ℤ) (notes : List Note)
 notes-none docs place low [] = refl
 notes-none docs place low (note ∷ notes) =
     rows-none Notes place (note_reason docs place low note) (notes_damage docs (place + 1) note.arrival notes)
-      (note_stands docs place low note) (notes_stand docs (place + 1) note.arrival notes)
+    (note_stands docs place low note) (notes_stand docs (place + 1) note.arrival notes)
     (four (note.num.0 == place) (may_follow low note.arrival) (has_arrived docs note.doc.0 note.arrival) (is_name note.author)
-      (is_name note.kind) Number Moment Reference Name)
+    (is_name note.kind) Number Moment Reference Name)
     (notes-none docs (place + 1) note.arrival notes)
 
 crossed : (a r x y : Bool) → ((a && r) && (x && y)) ≡ ((a && x) && (r && y))
@@ -113,21 +113,21 @@ queries-none : (earlier : List QueryRow) (place : ℕ) (low : ℤ) (queries : Li
 queries-none earlier place low [] = refl
 queries-none earlier place low (query ∷ queries) =
     rows-none Queries place (query_reason earlier place low query)
-      (queries_damage (earlier ++ query ∷ []) (place + 1) query.arrival queries)
+    (queries_damage (earlier ++ query ∷ []) (place + 1) query.arrival queries)
     (query_stands earlier place low query && is_readable query)
-      (queries_stand (earlier ++ query ∷ []) (place + 1) query.arrival queries && list_all is_readable queries)
+    (queries_stand (earlier ++ query ∷ []) (place + 1) query.arrival queries && list_all is_readable queries)
     (five (query.num.0 == place) (may_follow low query.arrival) (is_name query.owner) (is_name query.name)
-      (not (list_any (is_query_of query.owner query.name) earlier)) (is_readable query) Number Moment Name Twice Text)
+    (not (list_any (is_query_of query.owner query.name) earlier)) (is_readable query) Number Moment Name Twice Text)
     (queries-none (earlier ++ query ∷ []) (place + 1) query.arrival queries)
     ∙ crossed (query_stands earlier place low query) (is_readable query)
-        (queries_stand (earlier ++ query ∷ []) (place + 1) query.arrival queries) (list_all is_readable queries)
+    (queries_stand (earlier ++ query ∷ []) (place + 1) query.arrival queries) (list_all is_readable queries)
 
 runs-none : (queries : List QueryRow) (place : ℕ) (low : ℤ) (runs : List RunRow)
     → is_none (runs_damage queries place low runs) ≡ runs_stand queries place low runs
 runs-none queries place low [] = refl
 runs-none queries place low (run ∷ runs) =
     rows-none Runs place (run_reason queries place low run) (runs_damage queries (place + 1) run.moment runs)
-      (run_stands queries place low run) (runs_stand queries (place + 1) run.moment runs)
+    (run_stands queries place low run) (runs_stand queries (place + 1) run.moment runs)
     (three (run.num == place) (may_follow low run.moment) (was_defined queries run.query.0 run.moment) Number Moment Reference)
     (runs-none queries (place + 1) run.moment runs)
 
@@ -137,21 +137,21 @@ picked-is pick None doc = refl
 picked-is pick (Some run) None = refl
 picked-is pick (Some run) (Some doc) =
     assoc (run.query.0 == pick.query.0) (int_lt pick.first run.moment) (int_le doc.arrival pick.first) where
-  assoc : (a b c : Bool) → (a && b && c) ≡ (a && (b && c))
-  assoc true b c = refl
-  assoc false b c = refl
+      assoc : (a b c : Bool) → (a && b && c) ≡ (a && (b && c))
+      assoc true b c = refl
+      assoc false b c = refl
 
 picks-none : (runs : List RunRow) (docs : List Doc) (earlier : List Pick) (place : ℕ) (before : Option Pick) (picks : List Pick)
     → is_none (picks_damage runs docs earlier place before picks) ≡ picks_stand runs docs earlier place before picks
 picks-none runs docs earlier place before [] = refl
 picks-none runs docs earlier place before (pick ∷ picks) =
     rows-none Picks place (pick_reason runs docs earlier place before pick)
-      (picks_damage runs docs (earlier ++ pick ∷ []) (place + 1) (Some pick) picks)
+    (picks_damage runs docs (earlier ++ pick ∷ []) (place + 1) (Some pick) picks)
     (pick_stands runs docs earlier place before pick) (picks_stand runs docs (earlier ++ pick ∷ []) (place + 1) (Some pick) picks)
     (parted (pick.num == place) (refers pick (row_at pick.run runs) (row_at pick.doc.0 docs)) (not (list_any (is_same_pick pick) earlier))
-      (is_second_possible pick (row_at pick.run runs) (row_at pick.doc.0 docs)) (comes_after before pick)
+    (is_second_possible pick (row_at pick.run runs) (row_at pick.doc.0 docs)) (comes_after before pick)
     (is_picked pick (row_at pick.run runs) (row_at pick.doc.0 docs)) Number Reference Twice Second Order
-      (picked-is pick (row_at pick.run runs) (row_at pick.doc.0 docs)))
+    (picked-is pick (row_at pick.run runs) (row_at pick.doc.0 docs)))
     (picks-none runs docs (earlier ++ pick ∷ []) (place + 1) (Some pick) picks)
 
 filters-none : (place : ℕ) (low : ℤ) (filters : List FilterRow)
@@ -159,7 +159,7 @@ filters-none : (place : ℕ) (low : ℤ) (filters : List FilterRow)
 filters-none place low [] = refl
 filters-none place low (filter ∷ filters) =
     rows-none Filters place (filter_reason place low filter) (filters_damage (place + 1) filter.arrival filters)
-      (filter_stands place low filter) (filters_stand (place + 1) filter.arrival filters)
+    (filter_stands place low filter) (filters_stand (place + 1) filter.arrival filters)
     (three (filter.num == place) (may_follow low filter.arrival) (is_name filter.owner) Number Moment Name)
     (filters-none (place + 1) filter.arrival filters)
 
@@ -191,17 +191,17 @@ unfolding damage_of
 none-is tables =
     either-none (docs_damage 1 (pos 0) tables.docs) _ (docs_stand 1 (pos 0) tables.docs) _ (docs-none 1 (pos 0) tables.docs)
     (either-none (notes_damage tables.docs 1 (pos 0) tables.notes) _ (notes_stand tables.docs 1 (pos 0) tables.notes) _
-      (notes-none tables.docs 1 (pos 0) tables.notes)
+    (notes-none tables.docs 1 (pos 0) tables.notes)
     (either-none (queries_damage [] 1 (pos 0) tables.queries) _
-      (queries_stand [] 1 (pos 0) tables.queries && list_all is_readable tables.queries) _ (queries-none [] 1 (pos 0) tables.queries)
+    (queries_stand [] 1 (pos 0) tables.queries && list_all is_readable tables.queries) _ (queries-none [] 1 (pos 0) tables.queries)
     (either-none (runs_damage tables.queries 1 (pos 0) tables.runs) _ (runs_stand tables.queries 1 (pos 0) tables.runs) _
-      (runs-none tables.queries 1 (pos 0) tables.runs)
+    (runs-none tables.queries 1 (pos 0) tables.runs)
     (either-none (picks_damage tables.runs tables.docs [] 1 None tables.picks) (filters_damage 1 (pos 0) tables.filters)
-      (picks_stand tables.runs tables.docs [] 1 None tables.picks) (filters_stand 1 (pos 0) tables.filters)
-      (picks-none tables.runs tables.docs [] 1 None tables.picks) (filters-none 1 (pos 0) tables.filters)))))
+    (picks_stand tables.runs tables.docs [] 1 None tables.picks) (filters_stand 1 (pos 0) tables.filters)
+    (picks-none tables.runs tables.docs [] 1 None tables.picks) (filters-none 1 (pos 0) tables.filters)))))
     ∙ six (docs_stand 1 (pos 0) tables.docs) (notes_stand tables.docs 1 (pos 0) tables.notes) (queries_stand [] 1 (pos 0) tables.queries)
-        (list_all is_readable tables.queries) (runs_stand tables.queries 1 (pos 0) tables.runs)
-        (picks_stand tables.runs tables.docs [] 1 None tables.picks) (filters_stand 1 (pos 0) tables.filters)
+    (list_all is_readable tables.queries) (runs_stand tables.queries 1 (pos 0) tables.runs)
+    (picks_stand tables.runs tables.docs [] 1 None tables.picks) (filters_stand 1 (pos 0) tables.filters)
 
 read-ok : (reading : Result Condition TextFault) → is_condition reading ≡ true → IsOk reading
 read-ok (Ok condition) e = refl

@@ -18,8 +18,10 @@ use Rattle.restart_core.specs.Readings.{reading_of, readings_of, as_read}
 -- the list at one of its places
 split : {A : Type 0} (xs : List A) (i : ℕ) (x : A) → i < length xs → x ≡ get_or xs i x
     → (drop i xs ≡ x ∷ drop (i + 1) xs) × (take (i + 1) xs ≡ take i xs ++ x ∷ [])
-split xs i x lt is = (drop-cons xs i x lt ∙ ap (λ y. y ∷ drop (suc i) xs) (sym is) ∙ ap (λ k. x ∷ drop k xs) (one-more i),
-      ap (λ k. take k xs) (sym (one-more i)) ∙ take-suc xs i x lt ∙ ap (λ y. take i xs ++ y ∷ []) (sym is)) where
+split xs i x lt is = (
+  drop-cons xs i x lt ∙ ap (λ y. y ∷ drop (suc i) xs) (sym is) ∙ ap (λ k. x ∷ drop k xs) (one-more i),
+  ap (λ k. take k xs) (sym (one-more i)) ∙ take-suc xs i x lt ∙ ap (λ y. take i xs ++ y ∷ []) (sym is),
+) where
   one-more : (n : ℕ) → suc n ≡ n + 1
   one-more n = omega arith
 
@@ -32,7 +34,7 @@ damage-on queries i low query all lt is left none =
     let parts = split queries i query lt is in
     left ∙ ap (queries_damage (take i queries) (i + 1) low) parts.0
     ∙ ap (λ why. option_or (row_damage Queries (i + 1) why)
-          (queries_damage (take i queries ++ query ∷ []) (i + 1 + 1) query.arrival (drop (i + 1) queries))) none
+    (queries_damage (take i queries ++ query ∷ []) (i + 1 + 1) query.arrival (drop (i + 1) queries))) none
     ∙ ap (λ earlier. queries_damage earlier (i + 1 + 1) query.arrival (drop (i + 1) queries)) (sym parts.1)
 
 -- the damage of one that has a reason is the first
@@ -54,7 +56,7 @@ names-on queries i query lt is = ap (map named_of) (sym (split queries i query l
 pub conds-on : (queries : List QueryRow) (i : ℕ) (query : QueryRow) (conds new : List Cond) (cond : Cond) → i < length queries
     → query ≡ get_or queries i query
     → readings_of queries ≡ as_read conds ++ readings_of (drop i queries) → reading_of query ≡ Ok (condition cond)
-        → new ≡ conds ++ cond ∷ []
+    → new ≡ conds ++ cond ∷ []
     → readings_of queries ≡ as_read new ++ readings_of (drop (i + 1) queries)
 conds-on queries i query conds new cond lt is left read made =
     let rest = readings_of (drop (i + 1) queries) in

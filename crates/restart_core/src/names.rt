@@ -47,10 +47,10 @@ impl Names {
     pub(crate) fn add(&mut self, query: &QueryRow) -> Result<bool, Memory>
         ensures new { (queries : List QueryRow) → self.old ≡ map named_of queries
             → IfOk result (λ new.
-                new ≡ not (list_any (is_query_of query.now.owner query.now.name) queries)) }
+            new ≡ not (list_any (is_query_of query.now.owner query.now.name) queries)) }
         ensures names { (queries : List QueryRow) → self.old ≡ map named_of queries
             → IfOk result (λ new. new ≡ true
-                → self.new ≡ map named_of (queries ++ query.now ∷ [])) }
+            → self.new ≡ map named_of (queries ++ query.now ∷ [])) }
     {
         let owner = query.owner.copy()?;
         let name = query.name.copy()?;

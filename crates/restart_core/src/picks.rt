@@ -38,7 +38,7 @@ fn is_second_possible(pick: &Pick, run: Option<&RunRow>, doc: Option<&Doc>) -> b
 // Does the pick come after the one before, by first second and document?
 fn is_later(before: &Pick, pick: &Pick) -> bool
     ensures { result ≡ (int_lt before.now.first pick.now.first
-          || (int_le before.now.first pick.now.first && nat_lt before.now.doc.0 pick.now.doc.0)) }
+        || (int_le before.now.first pick.now.first && nat_lt before.now.doc.0 pick.now.doc.0)) }
 {
     before.first < pick.first || (before.first <= pick.first && before.doc.0 < pick.doc.0)
 }
@@ -68,7 +68,7 @@ fn reason(
 ) -> Result<Option<Why>, Memory>
     ensures why { (earlier : List Pick) → picked.old ≡ map pair_of earlier
         → IfOk result (λ why. why
-            ≡ pick_reason runs.now docs.now earlier place (option_copied before.entry) pick.now) }
+        ≡ pick_reason runs.now docs.now earlier place (option_copied before.entry) pick.now) }
     ensures pairs { (earlier : List Pick) → picked.old ≡ map pair_of earlier
         → IfOk result (λ why. why ≡ None → picked.new ≡ map pair_of (earlier ++ pick.now ∷ [])) }
 {

@@ -58,7 +58,7 @@ fn read_query(
     ensures fault { (earlier : List QueryRow) → names.old ≡ map named_of earlier
         → IfErr result (λ fault. (fault ≡ RestartFault.Memory)
         ⊎ (row_damage TableName.Queries place (query_reason earlier place low query.now)
-              ≡ Some fault)) }
+        ≡ Some fault)) }
 {
     if let Some(why) = own_reason(place, low, query) {
         return Err(damaged(TableName::Queries, place, why));

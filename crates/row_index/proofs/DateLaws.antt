@@ -159,15 +159,15 @@ pub dates_more : (docs : List Doc) (d : Doc) (keys more : List Dated) (k : Dated
     → more ≡ map dated (in_date_order (docs ++ d ∷ []))
 dates_more docs d keys more k h e s q m i =
     m ∙ ap (λ z. insert_key dated_cmp z k) i ∙ ap (λ z. insert_key dated_cmp (map dated (in_date_order docs)) z) q
-      ∙ sym (put_in_keys d (in_date_order docs) (below_all docs d h e)) ∙ ap (λ z. map dated z) (sym (order_with docs d s))
+    ∙ sym (put_in_keys d (in_date_order docs) (below_all docs d h e)) ∙ ap (λ z. map dated z) (sym (order_with docs d s))
 
 pub dates_less : (docs : List Doc) (d : Doc) (keys fewer : List Dated) (k : Dated) → Numbered doc_number 1 docs → d.num.0 ≡ length docs + 1
     → has_date d ≡ true → k ≡ dated d → fewer ≡ remove_key (λ x. is_eq (dated_cmp k x)) keys
     → keys ≡ map dated (in_date_order (docs ++ d ∷ [])) → fewer ≡ map dated (in_date_order docs)
 dates_less docs d keys fewer k h e s q m i =
     m ∙ ap (λ z. remove_key (λ x. is_eq (dated_cmp k x)) z) (i ∙ ap (λ z. map dated z) (order_with docs d s))
-      ∙ ap (λ z. remove_key (λ x. is_eq (dated_cmp z x)) (map dated (put_dated d (in_date_order docs)))) q
-      ∙ taken_from_keys d (in_date_order docs) (below_all docs d h e)
+    ∙ ap (λ z. remove_key (λ x. is_eq (dated_cmp z x)) (map dated (put_dated d (in_date_order docs)))) q
+    ∙ taken_from_keys d (in_date_order docs) (below_all docs d h e)
 
 -- a part of the dates
 
@@ -250,8 +250,8 @@ pub range_is : (low high end l e : ℤ) (docs : List Doc) (keys part : List Date
     → keys ≡ map dated (in_date_order docs) → part ≡ map dated (dated_in low high docs)
 range_is low high end l e docs keys part w p q r k =
     dates_in low high end docs keys part w (r ∙ ap (λ z. filter (range_contains dated_cmp (Included (record { date = z; place = 0 }))
-              (Excluded (record { date = e; place = 0 }))) keys) p ∙ ap (λ z. filter
-            (range_contains dated_cmp (Included (record { date = low; place = 0 })) (Excluded (record { date = z; place = 0 }))) keys) q) k
+    (Excluded (record { date = e; place = 0 }))) keys) p ∙ ap (λ z. filter
+    (range_contains dated_cmp (Included (record { date = low; place = 0 })) (Excluded (record { date = z; place = 0 }))) keys) q) k
 
 -- the documents of some dates
 
@@ -264,6 +264,6 @@ pub found_dated : (low high : ℤ) (docs : List Doc) (keys : List Dated) (left :
 found_dated low high docs keys left h l e =
     let own = all_own doc_number docs h in
     l ∙ ap (λ z. at_places docs (map (λ (k : Dated). k.place) z)) e ∙ ap (λ z. at_places docs z) (places_dated (dated_in low high docs))
-        ∙ own_picked doc_number docs (dated_in low high docs)
-        (each_kept (λ doc. slice_get docs (doc.num.0 - 1) ≡ Some doc) (λ x. int_le low (stored_date x) && int_lt (stored_date x) high)
-          (in_date_order docs) (each_ordered (λ doc. slice_get docs (doc.num.0 - 1) ≡ Some doc) docs own))
+    ∙ own_picked doc_number docs (dated_in low high docs)
+    (each_kept (λ doc. slice_get docs (doc.num.0 - 1) ≡ Some doc) (λ x. int_le low (stored_date x) && int_lt (stored_date x) high)
+    (in_date_order docs) (each_ordered (λ doc. slice_get docs (doc.num.0 - 1) ≡ Some doc) docs own))

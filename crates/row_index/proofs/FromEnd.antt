@@ -34,13 +34,13 @@ module _ {A : Type 0} (p : A → Bool) (xs : List A) (parted : IsPartitionedBy p
       let inside : j < m = omega (arith, l, n) in
       let low : i < m = omega (arith, e, inside) in
       rw (row_at xs a m i d low)
-        (parted (a + i) (a + j) d (omega (arith, e)) (omega (arith, w, inside)) (sym (ap p (row_at xs a m j d inside)) ∙ h))
+      (parted (a + i) (a + j) d (omega (arith, e)) (omega (arith, w, inside)) (sym (ap p (row_at xs a m j d inside)) ∙ h))
 
   -- where the part is cut is where the whole is, if all before the part pass and all behind it fail
   pub cut_of_part : (a m n : ℕ) → a + m ≤ length xs → n ≤ length (take m (drop a xs)) → AllWithin (λ y. p y ≡ true) xs 0 a
       → AllWithin (λ y. p y ≡ false) xs (a + m) (length xs)
       → (IsPartitionedBy p (take m (drop a xs)) → IsPartitionPoint (λ y. p y ≡ true) (λ y. p y ≡ false) (take m (drop a xs)) n)
-          → IsPartitionPoint (λ y. p y ≡ true) (λ y. p y ≡ false) xs (a + n)
+      → IsPartitionPoint (λ y. p y ≡ true) (λ y. p y ≡ false) xs (a + n)
   cut_of_part a m n w b front back cut =
       let h = cut (part_parted a m w) in
       let e = part_length xs a m w in (
@@ -48,21 +48,21 @@ module _ {A : Type 0} (p : A → Bool) (xs : List A) (parted : IsPartitionedBy p
             elim (order k a) [
               | inl s ↦ front k d l s
               | inr s ↦ subst (λ i. p (slice_index_or xs i d) ≡ true) (omega (arith, s))
-                (sym (ap p (row_at xs a m (k - a) d (omega (arith, s, u, b, e)))) ∙ h.0 (k - a) d (omega arith) (omega (arith, s, u)))
+                  (sym (ap p (row_at xs a m (k - a) d (omega (arith, s, u, b, e)))) ∙ h.0 (k - a) d (omega arith) (omega (arith, s, u)))
             ],
         λ k d l u.
             elim (order k (a + m)) [
               | inl s ↦ subst (λ i. p (slice_index_or xs i d) ≡ false) (omega (arith, l))
-                (sym (ap p (row_at xs a m (k - a) d (omega (arith, l, s)))) ∙ h.1 (k - a) d (omega (arith, l)) (omega (arith, l, s, e)))
+                  (sym (ap p (row_at xs a m (k - a) d (omega (arith, l, s)))) ∙ h.1 (k - a) d (omega (arith, l)) (omega (arith, l, s, e)))
               | inr s ↦ back k d s u
             ],
       )
 
   pub cut_of_front : (m n : ℕ) → m ≤ length xs → n ≤ length (take m xs) → AllWithin (λ y. p y ≡ false) xs m (length xs)
       → (IsPartitionedBy p (take m xs) → IsPartitionPoint (λ y. p y ≡ true) (λ y. p y ≡ false) (take m xs) n)
-          → IsPartitionPoint (λ y. p y ≡ true) (λ y. p y ≡ false) xs n
+      → IsPartitionPoint (λ y. p y ≡ true) (λ y. p y ≡ false) xs n
   cut_of_front m n w b back cut =
       let behind : AllWithin (λ y. p y ≡ false) xs (0 + m) (length xs) =
-          subst (λ i. AllWithin (λ y. p y ≡ false) xs i (length xs)) (omega arith) back in
+      subst (λ i. AllWithin (λ y. p y ≡ false) xs i (length xs)) (omega arith) back in
       subst (IsPartitionPoint (λ y. p y ≡ true) (λ y. p y ≡ false) xs) (omega arith)
-        (cut_of_part 0 m n (omega (arith, w)) b (λ k d l u. absurd (omega (arith, l, u))) behind cut)
+      (cut_of_part 0 m n (omega (arith, w)) b (λ k d l u. absurd (omega (arith, l, u))) behind cut)

@@ -32,7 +32,7 @@ module _ {A : Type 0} where
   front_passes p (x ∷ xs) (suc i) w h =
       let e : p x ≡ true = h.0 0 x (omega arith) (omega arith) in
       let r = front_passes p xs i (omega (arith, w))
-          ((λ k d a b. h.0 (suc k) d (omega arith) (omega (arith, b))), (λ k d a b. h.1 (suc k) d (omega (arith, a)) (omega (arith, b)))) in
+      ((λ k d a b. h.0 (suc k) d (omega arith) (omega (arith, b))), (λ k d a b. h.1 (suc k) d (omega (arith, a)) (omega (arith, b)))) in
       rw e (ap (λ z. x ∷ z) r)
 
   pub rest_fails : (p : A → Bool) (xs : List A) (i : ℕ) → i ≤ length xs → IsPartitionPoint (λ y. p y ≡ true) (λ y. p y ≡ false) xs i
@@ -42,7 +42,7 @@ module _ {A : Type 0} where
   rest_fails p (x ∷ xs) (suc i) w h =
       let e : p x ≡ true = h.0 0 x (omega arith) (omega arith) in
       let r = rest_fails p xs i (omega (arith, w))
-          ((λ k d a b. h.0 (suc k) d (omega arith) (omega (arith, b))), (λ k d a b. h.1 (suc k) d (omega (arith, a)) (omega (arith, b)))) in
+      ((λ k d a b. h.0 (suc k) d (omega arith) (omega (arith, b))), (λ k d a b. h.1 (suc k) d (omega (arith, a)) (omega (arith, b)))) in
       rw e r
 
   take_rest : (xs : List A) (i : ℕ) → take (length xs - i) (drop i xs) ≡ drop i xs

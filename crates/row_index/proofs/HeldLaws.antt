@@ -25,9 +25,9 @@ next_doc docs doc p h e q = record { numbered = h.numbered; number = e; behind =
 
 pub held_doc_more : (docs more : List Doc) (doc : Doc) (p : ℕ) (old new : DocPlaces) (notes : List Note) (on_doc : List (ℕ × List ℕ))
     → IsIndexOf docs old notes on_doc → doc.num.0 ≡ length docs + 1 → doc.num.0 < 2 ^ 32 → IsMoment doc.arrival
-        → Each (λ other. other.arrival ≤ℤ doc.arrival) docs
+    → Each (λ other. other.arrival ≤ℤ doc.arrival) docs
     → p ≡ doc.num.0 - 1 → ((docs : List Doc) → IsNext docs doc p → DocPosts docs old → DocPosts (docs ++ doc ∷ []) new)
-        → more ≡ docs ++ doc ∷ []
+    → more ≡ docs ++ doc ∷ []
     → IsIndexOf more new notes on_doc
 held_doc_more docs more doc p old new notes on_doc h e w m a q f s = subst (λ z. IsIndexOf z new notes on_doc) (sym s) (record {
   docs_stand = in_place_more doc_number doc_arrival docs doc h.docs_stand e w m a;
@@ -64,7 +64,7 @@ on_docs_less (n ∷ ns) note h = (h.0, on_docs_less ns note h.1)
 
 pub held_note_more : (docs : List Doc) (places : DocPlaces) (notes more : List Note) (note : Note) (p : ℕ) (old new : List (ℕ × List ℕ))
     → IsIndexOf docs places notes old → note.num.0 ≡ length notes + 1 → note.num.0 < 2 ^ 32 → note.doc.0 < 2 ^ 32 → IsMoment note.arrival
-        → Each (λ other. other.arrival ≤ℤ note.arrival) notes
+    → Each (λ other. other.arrival ≤ℤ note.arrival) notes
     → p ≡ note.num.0 - 1 → new ≡ posted nat_eq note.doc.0 p old → more ≡ notes ++ note ∷ []
     → IsIndexOf docs places more new
 held_note_more docs places notes more note p old new h e w d m a q f s =

@@ -72,7 +72,7 @@ module _ (texts : Doc → List (List ℕ)) (text : List ℕ) (docs : List Doc) (
   pub listed_rise : (places : List ℕ) → places ≡ places_of doc_number (with_text texts text docs) → Rising (place_arrival docs) places
   listed_rise places e =
       subst (Rising (place_arrival docs)) (sym e) (rising_mapped doc_arrival (place_arrival docs) (λ doc. doc_number doc - 1)
-          (with_text texts text docs) (own_arrivals docs (with_text texts text docs) own_listed) listed_arrive)
+      (with_text texts text docs) (own_arrivals docs (with_text texts text docs) own_listed) listed_arrive)
 
   -- the places of a posting list pick its documents
   pub listed_picked : (places : List ℕ) → places ≡ places_of doc_number (with_text texts text docs)
@@ -96,7 +96,7 @@ module _ (texts : Doc → List (List ℕ)) (text : List ℕ) (docs : List Doc) (
     -- the part within the window is the documents of the window
     pub window_picked : at_places docs within ≡ rows
     window_picked = ap (λ z. at_places docs z) places_cut ∙ own_picked doc_number docs rows (each_kept (IsOwn docs)
-          (λ doc. int_le low (doc_arrival doc) && int_lt (doc_arrival doc) high) (with_text texts text docs) own_listed)
+        (λ doc. int_le low (doc_arrival doc) && int_lt (doc_arrival doc) high) (with_text texts text docs) own_listed)
 
     -- and at each of its places there is one
     pub window_has_rows : HasRows docs within
@@ -121,7 +121,7 @@ module _ (docs : List Doc) where
     all_placed low (p ∷ ps) h k =
         let w = full_rest (slice_get docs p) (at_places docs ps) (length ps) h in
         all_first low (slice_get docs p) (at_places docs ps) (length ps) (list_all (λ place. int_le low (g (slice_get docs place))) ps) h
-          (all_placed low ps w) k
+        (all_placed low ps w) k
 
     rising_first : (o : Option Doc) (ps : List ℕ) → HasRows docs ps → length (put_before o (at_places docs ps)) ≡ suc (length ps)
         → Rising f (put_before o (at_places docs ps))

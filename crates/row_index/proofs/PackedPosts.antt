@@ -16,12 +16,19 @@ append-one (k ∷ front) rest key = ap (λ ks. k ∷ ks) (append-one front rest 
 
 pub put-next : (keys rest rest' : List (List ℕ)) (key : List ℕ) (place : ℕ) (es fs gs : List (List ℕ × List ℕ)) → rest ≡ key ∷ rest'
     → gs ≡ posted bytes_eq key place fs → PutFirst keys rest place es fs → PutFirst keys rest' place es gs
-put-next keys rest rest' key place es fs gs is next (front, (whole, done)) =
-    (front ++ key ∷ [], (whole ∙ (ap (λ ks. front ++ ks) is ∙ append-one front rest' key), next
-        ∙ (ap (λ z. posted bytes_eq key place z) done ∙ sym (posted_onto bytes_eq front key place es))))
+put-next keys rest rest' key place es fs gs is next (front, (whole, done)) = (
+  front ++ key ∷ [],
+  (
+    whole ∙ (ap (λ ks. front ++ ks) is ∙ append-one front rest' key),
+    next
+        ∙ (ap (λ z. posted bytes_eq key place z) done ∙ sym (posted_onto bytes_eq front key place es)),
+  ),
+)
 
 pub put-partly : (keys rest : List (List ℕ)) (place : ℕ) (es fs gs : List (List ℕ × List ℕ)) → gs ≡ fs → PutFirst keys rest place es fs
     → IsPartlyPosted keys place es gs
-put-partly keys rest place es fs gs same (front, (whole, done)) =
-    (length front, same
-      ∙ (done ∙ ap (λ ks. posted_all bytes_eq ks place es) (sym (ap (λ ks. take (length front) ks) whole ∙ take-append_seam front rest))))
+put-partly keys rest place es fs gs same (front, (whole, done)) = (
+  length front,
+  same
+      ∙ (done ∙ ap (λ ks. posted_all bytes_eq ks place es) (sym (ap (λ ks. take (length front) ks) whole ∙ take-append_seam front rest))),
+)

@@ -39,9 +39,11 @@ module _ {A : Type 0} where
   own_from number n all (row ∷ rows) h s =
       let e : number row ≡ n + 1 = h.0 in
       let p : n + 0 ≡ number row - 1 = omega (arith, e) in
-      let first : slice_get all (number row - 1) ≡ Some row = subst (λ k. slice_get all k ≡ Some row) p (s 0) in
-      (first, own_from number (n + 1) all rows h.1 (λ k. let q : n + suc k ≡ n + 1 + k = omega arith in
-        subst (λ m. slice_get all m ≡ slice_get rows k) q (s (suc k))))
+      let first : slice_get all (number row - 1) ≡ Some row = subst (λ k. slice_get all k ≡ Some row) p (s 0) in (
+        first,
+        own_from number (n + 1) all rows h.1 (λ k. let q : n + suc k ≡ n + 1 + k = omega arith in
+            subst (λ m. slice_get all m ≡ slice_get rows k) q (s (suc k))),
+      )
 
   pub each_kept : (P : A → Type 0) (t : A → Bool) (rows : List A) → Each P rows → Each P (filter t rows)
   each_kept P t [] e = tt
@@ -63,7 +65,7 @@ module _ {A : Type 0} where
       → left ≡ with_key eq keys key rows
   found_listed eq keys number rows key places left h l e =
       l ∙ ap (λ z. at_places rows z) e ∙ own_picked number rows (with_key eq keys key rows)
-        (each_kept (λ row. slice_get rows (number row - 1) ≡ Some row) (λ row. is_one_of eq key (keys row)) rows (all_own number rows h))
+      (each_kept (λ row. slice_get rows (number row - 1) ≡ Some row) (λ row. is_one_of eq key (keys row)) rows (all_own number rows h))
 
   -- the rows that are found under a key
   pub found_under : {K : Type 0} (eq : K → K → Bool) (keys : A → List K) (number : A → ℕ) (rows : List A) (es : List (K × List ℕ)) (key : K)
@@ -115,7 +117,7 @@ module _ {A : Type 0} where
       ∙ ap (λ z. slice_get xs z) (same_Some p place e)
   picked_at xs (p ∷ ps) (suc k) place h e =
       put_later (slice_get xs p) (at_places xs ps) (length ps) k h
-        ∙ picked_at xs ps k place (full_rest (slice_get xs p) (at_places xs ps) (length ps) h) e
+      ∙ picked_at xs ps k place (full_rest (slice_get xs p) (at_places xs ps) (length ps) h) e
 
   -- the rows that are picked behind a place
   pub picked_behind : (xs : List A) (places : List ℕ) (k : ℕ) → HasRows xs places
@@ -124,7 +126,7 @@ module _ {A : Type 0} where
   picked_behind xs [] (suc k) h = refl
   picked_behind xs (p ∷ ps) (suc k) h =
       picked_behind xs ps k (full_rest (slice_get xs p) (at_places xs ps) (length ps) h)
-        ∙ sym (put_dropped (slice_get xs p) (at_places xs ps) (length ps) k h)
+      ∙ sym (put_dropped (slice_get xs p) (at_places xs ps) (length ps) k h)
 
   pub behind_has_rows : (xs : List A) (places : List ℕ) (k : ℕ) → HasRows xs places → HasRows xs (drop k places)
   behind_has_rows xs places zero h = h

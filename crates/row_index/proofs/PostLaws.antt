@@ -65,7 +65,7 @@ module _ {K : Type 0} (eq : K → K → Bool) (sound : (x y : K) → eq x y ≡ 
       ]
     where
       hit : eq key e.0 ≡ true → (if eq other e.0 then with_place p e.1 else under eq other es) ≡ (if eq other key
-            then with_place p (if eq other e.0 then e.1 else under eq other es) else (if eq other e.0 then e.1 else under eq other es))
+          then with_place p (if eq other e.0 then e.1 else under eq other es) else (if eq other e.0 then e.1 else under eq other es))
       hit b =
           let s : eq other e.0 ≡ eq other key = ap (λ k. eq other k) (sym (sound key e.0 b)) in
           elim (cases_Bool (eq other key)) [
@@ -76,7 +76,7 @@ module _ {K : Type 0} (eq : K → K → Bool) (sound : (x y : K) → eq x y ≡ 
       missed : eq key e.0 ≡ false
           → under eq other (posted eq key p es) ≡ (if eq other key then with_place p (under eq other es) else under eq other es)
           → (if eq other e.0 then e.1 else under eq other (posted eq key p es)) ≡ (if eq other key
-            then with_place p (if eq other e.0 then e.1 else under eq other es) else (if eq other e.0 then e.1 else under eq other es))
+          then with_place p (if eq other e.0 then e.1 else under eq other es) else (if eq other e.0 then e.1 else under eq other es))
       missed b i =
           elim (cases_Bool (eq other e.0)) [
             | inl c ↦
@@ -101,7 +101,7 @@ module _ {K : Type 0} (eq : K → K → Bool) (sound : (x y : K) → eq x y ≡ 
       ]
     where
       hit : eq key e.0 ≡ true → (if eq other e.0 then without_place p e.1 else under eq other es) ≡ (if eq other key
-            then without_place p (if eq other e.0 then e.1 else under eq other es) else (if eq other e.0 then e.1 else under eq other es))
+          then without_place p (if eq other e.0 then e.1 else under eq other es) else (if eq other e.0 then e.1 else under eq other es))
       hit b =
           let s : eq other e.0 ≡ eq other key = ap (λ k. eq other k) (sym (sound key e.0 b)) in
           elim (cases_Bool (eq other key)) [
@@ -112,7 +112,7 @@ module _ {K : Type 0} (eq : K → K → Bool) (sound : (x y : K) → eq x y ≡ 
       missed : eq key e.0 ≡ false
           → under eq other (unposted eq key p es) ≡ (if eq other key then without_place p (under eq other es) else under eq other es)
           → (if eq other e.0 then e.1 else under eq other (unposted eq key p es)) ≡ (if eq other key
-            then without_place p (if eq other e.0 then e.1 else under eq other es) else (if eq other e.0 then e.1 else under eq other es))
+          then without_place p (if eq other e.0 then e.1 else under eq other es) else (if eq other e.0 then e.1 else under eq other es))
       missed b i =
           elim (cases_Bool (eq other e.0)) [
             | inl c ↦
@@ -134,7 +134,7 @@ module _ {K : Type 0} (eq : K → K → Bool) (sound : (x y : K) → eq x y ≡ 
       i ∙ ap (λ xs. if is_one_of eq other keys then with_place p xs else xs) u ∙ both
     where
       both : (if is_one_of eq other keys then with_place p (if eq other key then with_place p (under eq other es) else under eq other es)
-            else (if eq other key then with_place p (under eq other es) else under eq other es))
+          else (if eq other key then with_place p (under eq other es) else under eq other es))
           ≡ (if eq other key || is_one_of eq other keys then with_place p (under eq other es) else under eq other es)
       both =
           elim (cases_Bool (eq other key)) [
@@ -160,13 +160,13 @@ module _ {K : Type 0} (eq : K → K → Bool) (sound : (x y : K) → eq x y ≡ 
         | inl b ↦
             let v : under eq other (unposted eq key p es) ≡ without_place p (under eq other es) = (rw b at u) in
             let t' : without_place p (without_place p (under eq other (unposted eq key p es)))
-                ≡ without_place p (under eq other (unposted eq key p es)) = rw v (ap (λ z. without_place p z) t) in
+            ≡ without_place p (under eq other (unposted eq key p es)) = rw v (ap (λ z. without_place p z) t) in
             let i = under_unposted_all other keys p (unposted eq key p es) t' in
             rw b (i ∙ ap (λ xs. if is_one_of eq other keys then without_place p xs else xs) v ∙ same t)
         | inr b ↦
             let v : under eq other (unposted eq key p es) ≡ under eq other es = (rw b at u) in
             let t' : without_place p (without_place p (under eq other (unposted eq key p es)))
-                ≡ without_place p (under eq other (unposted eq key p es)) = rw v t in
+            ≡ without_place p (under eq other (unposted eq key p es)) = rw v t in
             let i = under_unposted_all other keys p (unposted eq key p es) t' in
             rw b (i ∙ ap (λ xs. if is_one_of eq other keys then without_place p xs else xs) v)
       ]
@@ -194,10 +194,10 @@ module _ {K : Type 0} (eq : K → K → Bool) (sound : (x y : K) → eq x y ≡ 
       → part ≡ posted_all eq (take n keys) p es → under eq other (unposted_all eq keys p part) ≡ under eq other es
   undone other n keys p es part f e =
       let a : under eq other part ≡ (if is_one_of eq other (take n keys) then with_place p (under eq other es) else under eq other es) =
-          ap (λ z. under eq other z) e ∙ under_posted_all other (take n keys) p es in
+      ap (λ z. under eq other z) e ∙ under_posted_all other (take n keys) p es in
       let w : without_place p (under eq other part) ≡ under eq other es = ap (λ z. without_place p z) a ∙ first in
       let t : without_place p (without_place p (under eq other part)) ≡ without_place p (under eq other part) =
-          ap (λ z. without_place p z) w ∙ not_taken p (under eq other es) f ∙ sym w in
+      ap (λ z. without_place p z) w ∙ not_taken p (under eq other es) f ∙ sym w in
       under_unposted_all other keys p part t ∙ ended a w
     where
       first : without_place p (if is_one_of eq other (take n keys) then with_place p (under eq other es) else under eq other es)
@@ -306,14 +306,14 @@ module _ {K A : Type 0} (eq : K → K → Bool) (sound : (x y : K) → eq x y �
   -- the places under a key, of rows with one more
   places_more : (rows : List A) (row : A) (key : K) → number row ≡ length rows + 1
       → places_of number (with_key eq keys key (rows ++ row ∷ [])) ≡ (if is_one_of eq key (keys row)
-        then places_of number (with_key eq keys key rows) ++ length rows ∷ [] else places_of number (with_key eq keys key rows))
+      then places_of number (with_key eq keys key rows) ++ length rows ∷ [] else places_of number (with_key eq keys key rows))
   places_more rows row key e =
       ap (λ z. places_of number z) (filter_onto (λ row. is_one_of eq key (keys row)) rows row)
-        ∙ places_onto (with_key eq keys key rows) (if is_one_of eq key (keys row) then row ∷ [] else []) ∙ last
+      ∙ places_onto (with_key eq keys key rows) (if is_one_of eq key (keys row) then row ∷ [] else []) ∙ last
     where
       last : places_of number (with_key eq keys key rows) ++ places_of number (if is_one_of eq key (keys row) then row ∷ [] else [])
           ≡ (if is_one_of eq key (keys row) then places_of number (with_key eq keys key rows) ++ length rows ∷ []
-            else places_of number (with_key eq keys key rows))
+          else places_of number (with_key eq keys key rows))
       last =
           elim (cases_Bool (is_one_of eq key (keys row))) [
             | inl b ↦ rw b (ap (λ k. places_of number (with_key eq keys key rows) ++ k ∷ []) (row_place rows row e))
@@ -327,7 +327,7 @@ module _ {K A : Type 0} (eq : K → K → Bool) (sound : (x y : K) → eq x y �
     where
       more : (key : K) → (if is_one_of eq key (keys row) then with_place (length rows) (under eq key es) else under eq key es)
           ≡ (if is_one_of eq key (keys row) then places_of number (with_key eq keys key rows) ++ length rows ∷ []
-            else places_of number (with_key eq keys key rows))
+          else places_of number (with_key eq keys key rows))
       more key =
           let p = posts key in
           let n = put_new (length rows) (under eq key es) (fresh_place rows es key h posts) in
@@ -343,15 +343,15 @@ module _ {K A : Type 0} (eq : K → K → Bool) (sound : (x y : K) → eq x y �
       let xs = places_of number (with_key eq keys key rows) in
       let n : ends_with (length rows) xs ≡ false = smaller (length rows) (length xs - 1) xs b in
       let u : under eq key es ≡ (if is_one_of eq key (keys row) then xs ++ length rows ∷ [] else xs) = posts key
-          ∙ places_more rows row key e in
+      ∙ places_more rows row key e in
       let w : without_place (length rows) (under eq key es) ≡ xs = ap (λ z. without_place (length rows) z) u ∙ first key n in
       let t : without_place (length rows) (without_place (length rows) (under eq key es)) ≡ without_place (length rows) (under eq key es) =
-          ap (λ z. without_place (length rows) z) w ∙ not_taken (length rows) xs n ∙ sym w in
+      ap (λ z. without_place (length rows) z) w ∙ not_taken (length rows) xs n ∙ sym w in
       ap (λ z. under eq key z) f ∙ under_unposted_all eq sound key (keys row) (length rows) es t ∙ ended key u w
     where
       first : (key : K) → ends_with (length rows) (places_of number (with_key eq keys key rows)) ≡ false
           → without_place (length rows) (if is_one_of eq key (keys row) then places_of number (with_key eq keys key rows)
-            ++ length rows ∷ [] else places_of number (with_key eq keys key rows)) ≡ places_of number (with_key eq keys key rows)
+          ++ length rows ∷ [] else places_of number (with_key eq keys key rows)) ≡ places_of number (with_key eq keys key rows)
       first key n =
           elim (cases_Bool (is_one_of eq key (keys row))) [
             | inl c ↦ rw c (put_taken (length rows) (places_of number (with_key eq keys key rows)))
@@ -359,7 +359,7 @@ module _ {K A : Type 0} (eq : K → K → Bool) (sound : (x y : K) → eq x y �
           ]
 
       ended : (key : K) → under eq key es ≡ (if is_one_of eq key (keys row)
-            then places_of number (with_key eq keys key rows) ++ length rows ∷ [] else places_of number (with_key eq keys key rows))
+          then places_of number (with_key eq keys key rows) ++ length rows ∷ [] else places_of number (with_key eq keys key rows))
           → without_place (length rows) (under eq key es) ≡ places_of number (with_key eq keys key rows)
           → (if is_one_of eq key (keys row) then without_place (length rows) (under eq key es) else under eq key es)
           ≡ places_of number (with_key eq keys key rows)

@@ -58,9 +58,9 @@ lists_of_one_kind_are_apart kind t u docs d e ds es single stand p q n =
     let own_e = (subst (Each (IsOwn docs)) q (own_listed (texts_of kind) u docs stand)).0 in
     let same : d ≡ e = same_Some d e (sym own_d ∙ ap (λ k. slice_get docs (k - 1)) n ∙ own_e) in
     let of_d = (subst (Each (λ doc. is_one_of bytes_eq t (texts_of kind doc) ≡ true)) p
-          (all_pass (λ doc. is_one_of bytes_eq t (texts_of kind doc)) docs)).0 in
+    (all_pass (λ doc. is_one_of bytes_eq t (texts_of kind doc)) docs)).0 in
     let of_e = (subst (Each (λ doc. is_one_of bytes_eq u (texts_of kind doc) ≡ true)) q
-          (all_pass (λ doc. is_one_of bytes_eq u (texts_of kind doc)) docs)).0 in
+    (all_pass (λ doc. is_one_of bytes_eq u (texts_of kind doc)) docs)).0 in
     let also : is_one_of bytes_eq u (texts_of kind d) ≡ true =
-        subst (λ doc. is_one_of bytes_eq u (texts_of kind doc) ≡ true) (sym same) of_e in
+    subst (λ doc. is_one_of bytes_eq u (texts_of kind doc) ≡ true) (sym same) of_e in
     ap (λ z. with_text (texts_of kind) z docs) (one_text kind d t u single of_d also)

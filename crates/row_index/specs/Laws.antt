@@ -9,6 +9,6 @@ use Rattle.row_index.specs.Texts.{is_single, texts_of, with_text}
 abbrev pub ListsOfOneKindAreApart : Type 0
 ListsOfOneKindAreApart =
     (kind : TextKind) (t u : List ℕ) (docs : List Doc) (d e : Doc) (ds es : List Doc) → is_single kind ≡ true
-      → InPlace doc_number doc_arrival docs
+    → InPlace doc_number doc_arrival docs
     → with_text (texts_of kind) t docs ≡ d ∷ ds → with_text (texts_of kind) u docs ≡ e ∷ es → d.num.0 ≡ e.num.0
     → with_text (texts_of kind) t docs ≡ with_text (texts_of kind) u docs

@@ -56,7 +56,7 @@ impl Dates {
     /// Adds the document's date, if it has one. `Memory` comes if memory runs out.
     pub(crate) fn add(&mut self, doc: &KeptDoc, place: u32) -> Result<(), Memory>
         ensures ok { OnOk result ((docs : List Doc) → IsNext docs doc.now place
-              → DatePosts docs self.old → DatePosts (docs ++ doc.now ∷ []) self.new) }
+            → DatePosts docs self.old → DatePosts (docs ++ doc.now ∷ []) self.new) }
         ensures err { OnErr result
             ((docs : List Doc) → DatePosts docs self.old → DatePosts docs self.new) }
     {

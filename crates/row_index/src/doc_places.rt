@@ -33,9 +33,9 @@ impl DocPlaces {
     /// before.
     pub(crate) fn add(&mut self, doc: &KeptDoc, place: u32) -> Result<(), Memory>
         ensures ok { OnOk result ((docs : List Doc) → IsNext docs doc.now place
-              → DocPosts docs self.old → DocPosts (docs ++ doc.now ∷ []) self.new) }
+            → DocPosts docs self.old → DocPosts (docs ++ doc.now ∷ []) self.new) }
         ensures err { OnErr result ((docs : List Doc) → IsNext docs doc.now place
-              → DocPosts docs self.old → DocPosts docs self.new) }
+            → DocPosts docs self.old → DocPosts docs self.new) }
     {
         self.texts.add(doc, place)?;
         let done = self.dates.add(doc, place);

@@ -96,9 +96,9 @@ impl DocTexts {
     /// are found as before.
     pub(crate) fn add(&mut self, doc: &KeptDoc, place: u32) -> Result<(), Memory>
         ensures ok { OnOk result ((docs : List Doc) → IsNext docs doc.now place
-              → TextPosts docs self.old → TextPosts (docs ++ doc.now ∷ []) self.new) }
+            → TextPosts docs self.old → TextPosts (docs ++ doc.now ∷ []) self.new) }
         ensures err { OnErr result ((docs : List Doc) → IsNext docs doc.now place
-              → TextPosts docs self.old → TextPosts docs self.new) }
+            → TextPosts docs self.old → TextPosts docs self.new) }
     {
         let done = self.put(doc, place);
         if done.is_err() {

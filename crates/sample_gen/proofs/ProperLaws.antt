@@ -25,8 +25,11 @@ proper_message i d = rw (list_all-append is_proper (note_after i d) (runs_after 
 
 proper_messages : (n : ℕ) → list_all is_proper (commands_of_messages n) ≡ true
 proper_messages zero = refl
-proper_messages (suc i) = rw (list_all-append is_proper (commands_of_messages i) (commands_of_message (suc i) (draw (suc i))),
-      proper_messages i, proper_message (suc i) (draw (suc i))) refl
+proper_messages (suc i) = rw (
+  list_all-append is_proper (commands_of_messages i) (commands_of_message (suc i) (draw (suc i))),
+  proper_messages i,
+  proper_message (suc i) (draw (suc i)),
+) refl
 
 pub proper_sample : (n : ℕ) → list_all is_proper (sample_of n) ≡ true
 proper_sample n = rw (list_all-append is_proper (commands_of_messages n) _, proper_messages n) refl

@@ -25,7 +25,7 @@ draw i = generator_after i / 65536
 abbrev pub word_of : ℕ → List ℕ
 word_of drawn =
     if drawn % 4 == 0 then codes "alpha" else if drawn % 4 == 1 then codes "beta" else if drawn % 4 == 2 then codes "gamma"
-      else codes "delta"
+    else codes "delta"
 
 -- the identifier of message i
 unfoldable pub message_id : ℕ → List ℕ
@@ -51,7 +51,7 @@ parent_line i drawn = if is_answer i drawn then answer_line (parent_of i drawn) 
 unfoldable pub sample_message : ℕ → ℕ → List ℕ
 sample_message i drawn =
     line (codes "From: user@parc") ++ line (codes "Message-ID: " ++ message_id i) ++ parent_line i drawn
-      ++ line (codes "Subject: " ++ word_of drawn)
+    ++ line (codes "Subject: " ++ word_of drawn)
     ++ line [] ++ line (codes "about " ++ word_of drawn)
 
 -- a run of each query

@@ -143,7 +143,7 @@ found_text n (DocNotes doc) = head n (codes "notes") ++ decimal doc
 found_text n UserQueries = codes "ok " ++ decimal n ++ codes " queries"
 found_text n (Counts docs notes moment) =
     head n (codes "counts") ++ codes "documents " ++ decimal docs ++ codes " notes " ++ decimal notes ++ codes " moment "
-      ++ signed_decimal moment
+    ++ signed_decimal moment
 
 -- the text of a reply's first line
 abbrev pub first_text : Reply → List ℕ

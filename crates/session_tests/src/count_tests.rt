@@ -210,8 +210,7 @@ fn there_are_at_most_1000000_documents(rt: HostRuntime) -> Result<(), Memory> {
         b"as ann\nat 2\nmbox\nFrom a\n\nFrom b\n.\nmail\n.\nmail\n.\nmbox\nFrom a\n.\nmbox\n.\n\
           note 1000000 k 1 x\nnote 1000001 k 1 x\nquery q m.id = 1000000\nat 3\nrun q\n";
     let (status, written) = answers_over(rt.alloc(), &counts, script.as_slice())?;
-    let want =
-        b"ok 0 as ann\nok 0 at 2\nno 16 documents\nok 0 doc 1000000\nno 16 documents\n\
+    let want = b"ok 0 as ann\nok 0 at 2\nno 16 documents\nok 0 doc 1000000\nno 16 documents\n\
         no 16 documents\n\
           ok 0 docs 0 1000001\nok 0 note 1\nno 11\nok 0 query q\nok 0 at 3\nok 1 run 1 before 3\n\
           doc 1000000 first 2\n";
@@ -232,8 +231,7 @@ fn there_are_at_most_1000000_notes(rt: HostRuntime) -> Result<(), Memory> {
         b"as ann\nat 2\nnote 1 k 2 x\nnote 1 k 3 x\nscores k\nmail\n.\nquery q TRUE\nfilter\n.\n\
         run q\n";
     let (status, written) = answers_over(rt.alloc(), &counts, script.as_slice())?;
-    let want =
-        b"ok 0 as ann\nok 0 at 2\nok 0 note 1000000\nno 16 notes\nok 1 scores k\n\
+    let want = b"ok 0 as ann\nok 0 at 2\nok 0 note 1000000\nno 16 notes\nok 1 scores k\n\
         doc 1 voters 1 sum 2\n\
           ok 0 doc 2\nok 0 query q\nok 0 filter 0\nok 1 run 1 before 2\ndoc 1 first 1\n";
     assert_eq!(rt; status, 1);
@@ -248,8 +246,7 @@ fn there_are_at_most_4000_queries(rt: HostRuntime) -> Result<(), Memory> {
         queries: 3999,
         ..EMPTY
     };
-    let script =
-        b"as v\nat 2\nquery a TRUE\nquery b TRUE\nas w\nquery a TRUE\nfilter\n.\nmail\n.\n\
+    let script = b"as v\nat 2\nquery a TRUE\nquery b TRUE\nas w\nquery a TRUE\nfilter\n.\nmail\n.\n\
         note 1 k 1\nas v\nrun a\n";
     let (status, written) = answers_over(rt.alloc(), &counts, script.as_slice())?;
     let want =
@@ -295,8 +292,7 @@ fn there_are_at_most_10000_filters(rt: HostRuntime) -> Result<(), Memory> {
         b"as u0\nat 2\nfilter\nWHEN\n.\nfilter\n.\nfilter\n.\nfilter\nWHEN\n.\nas v\nfilter\n.\n\
         query a TRUE\nmail\n.\nnote 1 k 1\nrun a\n";
     let (status, written) = answers_over(rt.alloc(), &counts, script.as_slice())?;
-    let want =
-        b"ok 0 as u0\nok 0 at 2\nno 17 1 4\nok 0 filter 0\nno 16 filters\nno 16 filters\n\
+    let want = b"ok 0 as u0\nok 0 at 2\nno 17 1 4\nok 0 filter 0\nno 16 filters\nno 16 filters\n\
         ok 0 as v\nno 16 filters\nok 0 query a\n\
           ok 0 doc 1\nok 0 note 1\nok 0 run 1 before 2\n";
     assert_eq!(rt; status, 1);
@@ -374,8 +370,7 @@ fn there_are_at_most_134217728_bytes_of_texts(rt: HostRuntime) -> Result<(), Mem
           note 1 k 1 x\nquery r TRUE\nfilter\n#\n.\nmail\n\n.\nmbox\nFrom a\nx\n.\n\
           note 1 k 1\nfilter\n.\nmail\n.\nmbox\nFrom a\n.\nrun q\n";
     let (status, written) = answers_over(rt.alloc(), &counts, script.as_slice())?;
-    let want =
-        b"ok 0 as ann\nok 0 at 2\nok 0 query q\nok 0 filter 0\nok 0 doc 2\nok 0 docs 1 3\n\
+    let want = b"ok 0 as ann\nok 0 at 2\nok 0 query q\nok 0 filter 0\nok 0 doc 2\nok 0 docs 1 3\n\
         no 16 store\n\
           ok 0 note 33027\nno 16 store\nno 16 store\nno 16 store\nno 16 store\nno 16 store\n\
           ok 0 note 33028\nok 0 filter 0\n\

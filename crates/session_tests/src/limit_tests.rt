@@ -78,8 +78,7 @@ fn a_message_has_at_most_1048576_bytes(rt: HostRuntime) -> Result<(), Memory> {
         (b"at 2\nask 1 TRUE\nask 1 m.size = 1048576", b' ', 0, b"\n"),
     ];
     let (status, written) = answers_to(rt.alloc(), &parts)?;
-    let want =
-        b"ok 0 at 1\nok 0 doc 1\nno 16 message\nok 0 doc 2\nno 16 message\nok 0 docs 1 3\n\
+    let want = b"ok 0 at 1\nok 0 doc 1\nno 16 message\nok 0 doc 2\nno 16 message\nok 0 docs 1 3\n\
         no 16 message\nok 0 at 2\n\
           ok 3 ask 1\ndoc 1\ndoc 2\ndoc 3\nok 3 ask 1\ndoc 1\ndoc 2\ndoc 3\n";
     assert_eq!(rt; status, 1);
@@ -153,8 +152,7 @@ fn a_filter_has_at_most_65536_bytes_and_4096_a_rule(rt: HostRuntime) -> Result<(
         ),
     ];
     let (status, written) = answers_to(rt.alloc(), &parts)?;
-    let want =
-        b"ok 0 as ann\nok 0 at 1\nok 0 filter 1\nno 16 block\nno 16 block\nok 0 filter 1\n\
+    let want = b"ok 0 as ann\nok 0 at 1\nok 0 filter 1\nno 16 block\nno 16 block\nok 0 filter 1\n\
         no 17 2 4096\n";
     assert_eq!(rt; status, 1);
     assert_eq!(rt; written.as_slice(), want.as_slice());
@@ -204,8 +202,7 @@ fn a_name_has_at_most_32_letters(rt: HostRuntime) -> Result<(), Memory> {
         (b"digest ", b'q', 32, b" 1\n"),
     ];
     let (status, written) = answers_to(rt.alloc(), &parts)?;
-    let want =
-        b"no 8\nok 0 as uuuuuuuuuuuuuuuuuuuuuuuuuuuuuuuu\nok 0 at 1\nok 0 doc 1\nno 8\n\
+    let want = b"no 8\nok 0 as uuuuuuuuuuuuuuuuuuuuuuuuuuuuuuuu\nok 0 at 1\nok 0 doc 1\nno 8\n\
         ok 0 note 1\n\
           no 8\nok 0 query qqqqqqqqqqqqqqqqqqqqqqqqqqqqqqqq\nno 17 1 27\nok 0 filter 1\n\
           no 8\nok 0 wake qqqqqqqqqqqqqqqqqqqqqqqqqqqqqqqq 2\nno 8\nok 0 at 2\n\
@@ -231,8 +228,7 @@ fn the_last_moment_is_250000000000(rt: HostRuntime) -> Result<(), Memory> {
           mail\n.\nquery q TRUE\n\
           run q\nwake q\nask 249999999999 TRUE\nask 250000000000 TRUE\nask 250000000001 TRUE\n";
     let (status, written) = answers(rt.alloc(), script.as_slice(), 64)?;
-    let want =
-        b"no 4\nno 4\nno 4\nno 4\nok 0 at 250000000000\nok 0 at 250000000000\nno 4\n\
+    let want = b"no 4\nno 4\nno 4\nno 4\nok 0 at 250000000000\nok 0 at 250000000000\nno 4\n\
         no 5 250000000000\n\
           ok 0 as ann\nok 0 doc 1\nok 0 query q\nok 0 run 1 before 250000000000\n\
           ok 0 wake q never\n\

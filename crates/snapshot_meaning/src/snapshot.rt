@@ -125,7 +125,7 @@ fn add_given<'a>(
 ) -> Result<(), Memory>
     requires { FitsEnv (condition cond.now) }
     ensures { OnOk result (nums.new ≡ nums.old
-          ++ given_nums (condition cond.now) (seen docs.now notes.now) s (doc.now ∷ [])) }
+        ++ given_nums (condition cond.now) (seen docs.now notes.now) s (doc.now ∷ [])) }
 {
     if is_doc_given(cond, doc, docs, notes, s) {
         nums.push(doc.doc().num)?;

@@ -17,7 +17,7 @@ with_missing : (held xs : List (List ℕ)) → with_new held xs ≡ held ++ miss
 with_missing held [] = sym (append-nil held)
 with_missing held (x ∷ xs) =
     elim (has_text held x) as (λ b. (if b then with_new held xs else with_new (held ++ x ∷ []) xs)
-        ≡ held ++ (if b then missing held xs else x ∷ missing (held ++ x ∷ []) xs)) [
+    ≡ held ++ (if b then missing held xs else x ∷ missing (held ++ x ∷ []) xs)) [
       | true ↦ with_missing held xs
       | false ↦ with_missing (held ++ x ∷ []) xs ∙ append_assoc held (x ∷ []) (missing (held ++ x ∷ []) xs)
     ]
@@ -26,10 +26,10 @@ same_missing : (a b : List (List ℕ)) → ((t : List ℕ) → has_text a t ≡ 
 same_missing a b same [] = refl
 same_missing a b same (x ∷ xs) =
     let more : (t : List ℕ)
-        → has_text (a ++ x ∷ []) t ≡ has_text (b ++ x ∷ []) t = λ t. list_any-append (λ other. bytes_eq t other) a (x ∷ [])
-        ∙ ap (λ h. h || has_text (x ∷ []) t) (same t) ∙ sym (list_any-append (λ other. bytes_eq t other) b (x ∷ [])) in
+    → has_text (a ++ x ∷ []) t ≡ has_text (b ++ x ∷ []) t = λ t. list_any-append (λ other. bytes_eq t other) a (x ∷ [])
+    ∙ ap (λ h. h || has_text (x ∷ []) t) (same t) ∙ sym (list_any-append (λ other. bytes_eq t other) b (x ∷ [])) in
     rw (same x) (elim (has_text b x)
-        as (λ h. (if h then missing a xs else x ∷ missing (a ++ x ∷ []) xs) ≡ (if h then missing b xs else x ∷ missing (b ++ x ∷ []) xs)) [
+    as (λ h. (if h then missing a xs else x ∷ missing (a ++ x ∷ []) xs) ≡ (if h then missing b xs else x ∷ missing (b ++ x ∷ []) xs)) [
       | true ↦ same_missing a b same xs
       | false ↦ ap (λ rest. x ∷ rest) (same_missing (a ++ x ∷ []) (b ++ x ∷ []) more xs)
     ])

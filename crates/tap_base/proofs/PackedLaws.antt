@@ -35,7 +35,7 @@ pieces-behind (l ∷ lens) bytes text e =
     let fits : l ≤ length bytes = first-fits l (total_length lens) (length bytes) e in
     let rest : total_length lens ≡ length (drop l bytes) = rest-fits l (total_length lens) (length bytes) e ∙ sym (length-drop l bytes) in
     rw (take-append-le l bytes text fits, drop-append-le l bytes text fits)
-      (ap (λ ts. take l bytes ∷ ts) (pieces-behind lens (drop l bytes) text rest))
+    (ap (λ ts. take l bytes ∷ ts) (pieces-behind lens (drop l bytes) text rest))
 
 -- the lengths are those of the bytes, with one more text
 pub totals-behind : (lens bytes text : List ℕ) → total_length lens ≡ length bytes

@@ -10,4 +10,4 @@ pub joined-bytes : (front back first second : List ℕ) (k : ℕ) (rest : List �
     → take (length front + length back) (put_mid (length front) k (first ++ rest) second) ≡ front ++ back
 joined-bytes front back first second k rest is after =
     rw (is, after) (take-put_mid (length front) k (front ++ rest) back (length front + length back) refl
-        (rw (length-append front rest) (omega arith)) ∙ ap (λ xs. xs ++ back) (take-append_seam front rest))
+    (rw (length-append front rest) (omega arith)) ∙ ap (λ xs. xs ++ back) (take-append_seam front rest))

@@ -41,12 +41,12 @@ first-words xs = go (cases_lt (position_or_len is_blank xs) (length xs)) where
   go (inl lt) =
       ap (filter is_some) (first_part is_blank xs (position_or_len is_blank xs) refl lt)
       ∙ ap (λ ws. if is_some (first_word xs) then first_word xs ∷ ws else ws)
-          (sym (ap words_of_line (drop_more xs (position_or_len is_blank xs) 0 lt) ∙ blank-first (get_or xs (position_or_len is_blank xs) 0)
-              (drop (position_or_len is_blank xs + 1) xs) (passes_at_first is_blank xs 0 lt)))
+      (sym (ap words_of_line (drop_more xs (position_or_len is_blank xs) 0 lt) ∙ blank-first (get_or xs (position_or_len is_blank xs) 0)
+      (drop (position_or_len is_blank xs + 1) xs) (passes_at_first is_blank xs 0 lt)))
   go (inr le) =
       ap (filter is_some) (whole_part is_blank xs (position_or_len is_blank xs) refl le).0
       ∙ ap (λ ws. if is_some (first_word xs) then first_word xs ∷ ws else ws)
-          (sym (ap words_of_line (drop_all (position_or_len is_blank xs) xs le)))
+      (sym (ap words_of_line (drop_all (position_or_len is_blank xs) xs le)))
 
 -- a text without blanks at its front and without a word there is empty
 no-word : (xs : List ℕ) → is_some (first_word (after_blanks xs)) ≡ false → after_blanks xs ≡ []
@@ -70,17 +70,17 @@ pub rest-words : (n : ℕ) (line : List ℕ) → words_of_line (after_words n li
 rest-words zero line = after_blanks-words line
 rest-words (suc n) line = after_blanks-words (after_word (after_words n line))
     ∙ go (is_some (first_word (after_words n line))) refl (rest-words n line) where
-  next : (ws : List (List ℕ)) → drop 1 (drop n ws) ≡ drop (suc n) ws
-  next ws = let e : n + 1 ≡ suc n = omega arith in drop-drop 1 n ws ∙ ap (λ k. drop k ws) e
+      next : (ws : List (List ℕ)) → drop 1 (drop n ws) ≡ drop (suc n) ws
+      next ws = let e : n + 1 ≡ suc n = omega arith in drop-drop 1 n ws ∙ ap (λ k. drop k ws) e
 
-  go : (t : Bool) → is_some (first_word (after_words n line)) ≡ t → words_of_line (after_words n line) ≡ drop n (words_of_line line)
-      → words_of_line (after_word (after_words n line)) ≡ drop (suc n) (words_of_line line)
-  go true passes before = sym (ap (drop 1) (first-words (after_words n line) ∙ ap (λ t. if t then first_word (after_words n line)
-            ∷ words_of_line (after_word (after_words n line)) else words_of_line (after_word (after_words n line))) passes))
-      ∙ ap (drop 1) before ∙ next (words_of_line line)
-  go false none before =
-      let empty = no-word-at n line none in
-      ap (λ u. words_of_line (after_word u)) empty ∙ ap (drop 1) (sym (ap words_of_line empty) ∙ before) ∙ next (words_of_line line)
+      go : (t : Bool) → is_some (first_word (after_words n line)) ≡ t → words_of_line (after_words n line) ≡ drop n (words_of_line line)
+          → words_of_line (after_word (after_words n line)) ≡ drop (suc n) (words_of_line line)
+      go true passes before = sym (ap (drop 1) (first-words (after_words n line) ∙ ap (λ t. if t then first_word (after_words n line)
+          ∷ words_of_line (after_word (after_words n line)) else words_of_line (after_word (after_words n line))) passes))
+          ∙ ap (drop 1) before ∙ next (words_of_line line)
+      go false none before =
+          let empty = no-word-at n line none in
+          ap (λ u. words_of_line (after_word u)) empty ∙ ap (drop 1) (sym (ap words_of_line empty) ∙ before) ∙ next (words_of_line line)
 
 text_at-drop : (n : ℕ) (ws : List (List ℕ)) → text_at n ws ≡ text_at zero (drop n ws)
 text_at-drop zero [] = refl
@@ -91,11 +91,11 @@ text_at-drop (suc n) (w ∷ ws) = text_at-drop n ws
 pub word-is : (n : ℕ) (line : List ℕ) → word n line ≡ text_at n (words_of_line line)
 word-is n line = go (is_some (first_word (after_words n line))) refl ∙ ap (text_at zero) (rest-words n line)
     ∙ sym (text_at-drop n (words_of_line line)) where
-  go : (t : Bool) → is_some (first_word (after_words n line)) ≡ t
-      → first_word (after_words n line) ≡ text_at zero (words_of_line (after_words n line))
-  go true passes = sym (ap (text_at zero) (first-words (after_words n line) ∙ ap (λ t. if t then first_word (after_words n line)
-            ∷ words_of_line (after_word (after_words n line)) else words_of_line (after_word (after_words n line))) passes))
-  go false none = let empty = no-word-at n line none in ap first_word empty ∙ sym (ap (λ u. text_at zero (words_of_line u)) empty)
+      go : (t : Bool) → is_some (first_word (after_words n line)) ≡ t
+          → first_word (after_words n line) ≡ text_at zero (words_of_line (after_words n line))
+      go true passes = sym (ap (text_at zero) (first-words (after_words n line) ∙ ap (λ t. if t then first_word (after_words n line)
+          ∷ words_of_line (after_word (after_words n line)) else words_of_line (after_word (after_words n line))) passes))
+      go false none = let empty = no-word-at n line none in ap first_word empty ∙ sym (ap (λ u. text_at zero (words_of_line u)) empty)
 
 -- there is a word at each place below their number
 some-at : (parts : List (List ℕ)) (n : ℕ) → is_some (text_at n (filter is_some parts)) ≡ nat_lt n (length (filter is_some parts))

@@ -40,7 +40,7 @@ longer : (start done done' : ℕ) (front bytes : List ℕ)
     → done ≡ counted (start + length front) → done' ≡ counted (done + length bytes) → done' ≡ counted (start + length (front ++ bytes))
 longer start done done' front bytes a b =
     b ∙ ap (λ n. counted (n + length bytes)) a ∙ counted-more (start + length front) (length bytes)
-      ∙ ap counted (sum (length front) (length bytes) ∙ ap (λ n. start + n) (sym (length-append front bytes))) where
+    ∙ ap counted (sum (length front) (length bytes) ∙ ap (λ n. start + n) (sym (length-append front bytes))) where
       sum : (m n : ℕ) → start + m + n ≡ start + (m + n)
       sum m n = omega arith
 
@@ -87,8 +87,12 @@ Puts-cut all rest rest' bytes start done old now new failed before next cut = re
 -- a put of more bytes was cut off among the first of them
 TookSome-first : (start : ℕ) (old new : Option (List ℕ)) (bytes more : List ℕ) (failed : PutFailed)
     → TookSome start old new bytes failed → TookSome start old new (bytes ++ more) failed
-TookSome-first start old new bytes more failed cut = record { n = cut.n; within = fits cut.n cut.within; count = cut.count;
-      written = subst (λ xs. Appends old new xs) (sym (within bytes more cut.n cut.within)) cut.written } where
+TookSome-first start old new bytes more failed cut = record {
+  n = cut.n;
+  within = fits cut.n cut.within;
+  count = cut.count;
+  written = subst (λ xs. Appends old new xs) (sym (within bytes more cut.n cut.within)) cut.written;
+} where
   fits : (n : ℕ) → n ≤ length bytes → n ≤ length (bytes ++ more)
   fits n le = let l = length-append bytes more in omega arith
 
@@ -128,14 +132,17 @@ Put-as g start bytes whole old new r is put = subst (λ xs. PutBehind g start xs
 -- two puts, one after another
 pub Put-then : {K : Type 0} (g : Ghosts K) (start done : ℕ) (whole bytes more : List ℕ) (old mid new : K) (r : Result ℕ PutFailed)
     → whole ≡ bytes ++ more → PutBehind g start bytes old mid (Ok done) → PutBehind g done more mid new r
-        → PutBehind g start whole old new r
+    → PutBehind g start whole old new r
 Put-then g start done whole bytes more old mid new (Ok end) is one two = record {
   count = longer start done end bytes more one.count two.count ∙ ap (λ xs. counted (start + length xs)) (sym is);
   ok =
       subst (λ xs. Appends (g.out old) (g.out new) xs) (sym is) (Appends-more (g.out old) (g.out mid) (g.out new) bytes more one.ok two.ok);
   err = tt;
-  cause = record { later = at-most (g.faults old) (g.faults mid) (g.faults new) one.cause.later two.cause.later; failed = tt;
-        fine = two.cause.fine ∙ one.cause.fine };
+  cause = record {
+    later = at-most (g.faults old) (g.faults mid) (g.faults new) one.cause.later two.cause.later;
+    failed = tt;
+    fine = two.cause.fine ∙ one.cause.fine;
+  };
 }
 Put-then g start done whole bytes more old mid new (Err failed) is one two = record {
   count = tt;
@@ -183,7 +190,7 @@ pub Puts-whole : {K : Type 0} (g : Ghosts K) (all rest : List ℕ) (start done :
     → Puts all rest start done (g.out old) (g.out now) → g.faults now ≡ g.faults old → rest ≡ [] → PutBehind g start all old now (Ok done)
 Puts-whole g all rest start done old now before same none =
     Put-as g start before.front all old now (Ok done) (sym (before.split ∙ ap (λ xs. before.front ++ xs) none ∙ append-nil before.front))
-      (record {
+    (record {
       count = before.count;
       ok = before.written;
       err = tt;

@@ -29,8 +29,8 @@ item-at (suc i) (y ∷ xs) x lt is =
 pub push-rows : (old now new : Tables) (m : ℤ) (texts : List (List ℕ)) (text : List ℕ) (i : ℕ) → i < length texts
     → text ≡ slice_index_or texts i text
     → new ≡ after now (Docs (docs_from (length now.docs + 1) m (text ∷ [])))
-        → old ≡ after now (Docs (docs_from (length now.docs + 1) m (drop i texts)))
-        → old ≡ after new (Docs (docs_from (length new.docs + 1) m (drop (i + 1) texts)))
+    → old ≡ after now (Docs (docs_from (length now.docs + 1) m (drop i texts)))
+    → old ≡ after new (Docs (docs_from (length new.docs + 1) m (drop (i + 1) texts)))
 push-rows old now new m texts text i lt is is-new rows =
     let n : ℕ = length now.docs + 1 in
     let doc : Doc = record { num = record { 0 = n }; arrival = m; text = text } in
@@ -55,8 +55,8 @@ pub push-count : (now new : Tables) (doc : Doc) (k i : ℕ) → new ≡ after no
     → length new.docs ≡ k + (i + 1)
 push-count now new doc k i is-new count = ap (λ (t : Tables). length t.docs) is-new ∙ length-append now.docs (doc ∷ [])
     ∙ one (length now.docs) k i count where
-  one : (n k i : ℕ) → n ≡ k + i → n + 1 ≡ k + (i + 1)
-  one n k i e = omega (arith, e)
+      one : (n k i : ℕ) → n ≡ k + i → n + 1 ≡ k + (i + 1)
+      one n k i e = omega (arith, e)
 
 each-more : (m : ℤ) (docs : List Doc) (doc : Doc) → Each (λ other. other.arrival ≤ℤ m) docs → doc.arrival ≤ℤ m
     → Each (λ other. other.arrival ≤ℤ m) (docs ++ doc ∷ [])
@@ -81,7 +81,7 @@ pub push-short : (texts : List (List ℕ)) (text : List ℕ) (i : ℕ) → i < l
     → are_short (drop i texts) ≡ true → (length text ≤ 1048576) × (are_short (drop (i + 1) texts) ≡ true)
 push-short texts text i lt is short =
     let both = both-true (nat_le (length text) 1048576) (are_short (drop (i + 1) texts))
-        (sym (ap are_short (item-at i texts text lt is)) ∙ short) in
+    (sym (ap are_short (item-at i texts text lt is)) ∙ short) in
     (nat-le (length text) 1048576 both.0, both.1)
 
 docs-many : (num : ℕ) (m : ℤ) (texts : List (List ℕ)) → length (docs_from num m texts) ≡ length texts
@@ -93,5 +93,5 @@ pub docs-room : (now new : Tables) (num : ℕ) (m : ℤ) (texts : List (List ℕ
     → length now.docs + length texts ≤ room → length new.docs ≤ room
 docs-room now new num m texts room is le =
     let many : length new.docs ≡ length now.docs + length texts = ap (λ (t : Tables). length t.docs) is
-        ∙ length-append now.docs (docs_from num m texts) ∙ ap (λ n. length now.docs + n) (docs-many num m texts) in
+    ∙ length-append now.docs (docs_from num m texts) ∙ ap (λ n. length now.docs + n) (docs-many num m texts) in
     omega (arith, many, le)

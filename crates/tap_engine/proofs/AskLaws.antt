@@ -40,8 +40,11 @@ module _ (s : Session) (moment source : List ℕ) (m now : ℤ) (is-m : moment_o
   pub ask-text : (refusal : Refusal) → (text_fault source ≡ Some refusal) ⊎ (refusal ≡ Memory) → Refuses refusal (Ask moment source) s t
   ask-text refusal (inl e) = inl (left ∙ ap (λ o. first_refusal (o ∷ refuse_unless (int_lt m now) (NotOver now) ∷ [])) e)
   ask-text refusal (inr e) =
-      inr (e, ap (λ o. is_some (first_refusal (missing BadMoment o ∷ no_moment s ∷ []))) is-m
-          ∙ ap (λ o. is_some (first_refusal (None ∷ missing NoMoment o ∷ []))) is-now)
+      inr (
+        e,
+        ap (λ o. is_some (first_refusal (missing BadMoment o ∷ no_moment s ∷ []))) is-m
+            ∙ ap (λ o. is_some (first_refusal (None ∷ missing NoMoment o ∷ []))) is-now,
+      )
 
   fine : (c : Condition) → condition_of source ≡ Ok c → verdict (Ask moment source) s t ≡ refuse_unless (int_lt m now) (NotOver now)
   fine c e = left ∙ ap (λ o. first_refusal (o ∷ refuse_unless (int_lt m now) (NotOver now) ∷ [])) (read-fine source c e).1

@@ -94,11 +94,18 @@ pub define-verdict : (e : Engine) (t : Tables) (name source : List ℕ) → Repr
 unfolding name_refusal query_limits
 define-verdict e t name source represents =
     limits-last (no_moment e.session) (no_user e.session) (bad_name name)
-      (refuse_unless (is_none (named_in (user_of e.session) name e.queries)) Taken) (text_fault (condition_text source))
-      (query_limits e (user_of e.session) (length (stored_source source)))
-    ∙ rw (represents.queries, named-kept t (user_of e.session) name t.queries,
-          none-map t (find (is_query_of (user_of e.session) name) t.queries), owned-kept t (user_of e.session) t.queries,
-          length-map t.queries (cached_query t), represents.users, represents.owners (user_of e.session), represents.bytes) refl
+    (refuse_unless (is_none (named_in (user_of e.session) name e.queries)) Taken) (text_fault (condition_text source))
+    (query_limits e (user_of e.session) (length (stored_source source)))
+    ∙ rw (
+      represents.queries,
+      named-kept t (user_of e.session) name t.queries,
+      none-map t (find (is_query_of (user_of e.session) name) t.queries),
+      owned-kept t (user_of e.session) t.queries,
+      length-map t.queries (cached_query t),
+      represents.users,
+      represents.owners (user_of e.session),
+      represents.bytes,
+    ) refl
 
 names-last : (a b c d : Option Refusal) → option_or a (option_or b (option_or c d)) ≡ first_refusal (a ∷ b ∷ c ∷ d ∷ [])
 names-last (Some x) b c d = refl
@@ -113,9 +120,12 @@ early-define : (e : Engine) (t : Tables) (name : List ℕ) → Represents e t
 unfolding name_refusal
 early-define e t name represents =
     names-last (no_moment e.session) (no_user e.session) (bad_name name)
-      (refuse_unless (is_none (named_in (user_of e.session) name e.queries)) Taken)
-    ∙ rw (represents.queries, named-kept t (user_of e.session) name t.queries,
-          none-map t (find (is_query_of (user_of e.session) name) t.queries)) refl
+    (refuse_unless (is_none (named_in (user_of e.session) name e.queries)) Taken)
+    ∙ rw (
+      represents.queries,
+      named-kept t (user_of e.session) name t.queries,
+      none-map t (find (is_query_of (user_of e.session) name) t.queries),
+    ) refl
 
 -- a command that is refused by its verdict, or is out of memory
 pub define-refuses : (e : Engine) (name source : List ℕ) (refusal : Refusal)
@@ -123,8 +133,8 @@ pub define-refuses : (e : Engine) (name source : List ℕ) (refusal : Refusal)
     → Refuses refusal (Define name source) e.session t
 define-refuses e name source refusal by t represents =
     refused-after _ _ refusal
-      (subst (λ x. RefusedAfter x (verdict (Define name source) e.session t) refusal) (early-define e t name represents)
-        (subst (λ v. RefusedAfter (early_define e name) v refusal) (define-verdict e t name source represents) by))
+    (subst (λ x. RefusedAfter x (verdict (Define name source) e.session t) refusal) (early-define e t name represents)
+    (subst (λ v. RefusedAfter (early_define e name) v refusal) (define-verdict e t name source represents) by))
 
 -- the user's query of this name in memory
 pub named-is : (e : Engine) (t : Tables) (name : List ℕ) → Represents e t
@@ -180,17 +190,17 @@ pub hits-of-query : (e : Engine) (t : Tables) (q : QueryRow) → Represents e t 
     → (e.session.moment ≡ None → ⊥) → cached_hits e (Some (cached_query t q)) ≡ hits_of q t (moment_or_zero e.session)
 hits-of-query e t q represents sound has there =
     ap (λ rows. hits_since (cached_query t q) rows (moment_or_zero e.session)) represents.rows
-      ∙ run-of-sound t e.session q (moment_or_zero e.session) sound has (go e.session.moment refl sound.now) where
+    ∙ run-of-sound t e.session q (moment_or_zero e.session) sound has (go e.session.moment refl sound.now) where
       go : (o : Option ℤ) → e.session.moment ≡ o → IsNow o t → covered (start_of q) q.num.0 t.runs ≤ℤ moment_or_zero e.session
       go None none now = absurd (there none)
       go (Some m) is now =
           subst (λ z. covered (start_of q) q.num.0 t.runs ≤ℤ z) (sym (ap or_zero is))
           (covered-each (λ z. z ≤ℤ m) (start_of q)
-            q.num.0 t.runs (each-in (λ query. (query.arrival ≤ℤ m) × (start_of query ≤ℤ m)) t.queries q now.1.queries has).1 now.1.runs)
+          q.num.0 t.runs (each-in (λ query. (query.arrival ≤ℤ m) × (start_of query ≤ℤ m)) t.queries q now.1.queries has).1 now.1.runs)
 
 hits-are : (e : Engine) (t : Tables) (name : List ℕ) → Represents e t → IsSound t e.session → (e.session.moment ≡ None → ⊥)
     → cached_hits e (option_map (cached_query t) (query_named (user_of e.session) name t))
-        ≡ hits_found (query_named (user_of e.session) name t) t (moment_or_zero e.session)
+    ≡ hits_found (query_named (user_of e.session) name t) t (moment_or_zero e.session)
 hits-are e t name represents sound there = go (query_named (user_of e.session) name t) refl where
   go : (o : Option QueryRow) → query_named (user_of e.session) name t ≡ o
       → cached_hits e (option_map (cached_query t) o) ≡ hits_found o t (moment_or_zero e.session)
@@ -210,15 +220,15 @@ run-there e t name represents sound there =
     let look : Option CachedQuery → Option Refusal = λ k. option_or (no_user e.session) (option_or (bad_name name) (missing NoQuery k)) in
     ap (λ k. run_checks e e.run_count e.pick_count (look k) (cached_hits e k)) (named-is e t name represents)
     ∙ ap (λ m. run_checks e e.run_count e.pick_count (option_or (no_user e.session) (option_or (bad_name name) m))
-          (cached_hits e (option_map (cached_query t) o))) (missing-map t o)
+    (cached_hits e (option_map (cached_query t) o))) (missing-map t o)
     ∙ ap (run_checks e e.run_count e.pick_count (option_or (no_user e.session) (option_or (bad_name name) (missing NoQuery o))))
-        (hits-are e t name represents sound there)
+    (hits-are e t name represents sound there)
     ∙ ap (λ n. run_checks e n e.pick_count (option_or (no_user e.session) (option_or (bad_name name) (missing NoQuery o)))
-          (hits_found o t (moment_or_zero e.session))) represents.run_count
+    (hits_found o t (moment_or_zero e.session))) represents.run_count
     ∙ ap (λ n. run_checks e (length t.runs) n (option_or (no_user e.session) (option_or (bad_name name) (missing NoQuery o)))
-          (hits_found o t (moment_or_zero e.session))) represents.pick_count
+    (hits_found o t (moment_or_zero e.session))) represents.pick_count
     ∙ six (no_moment e.session) (no_user e.session) (bad_name name) (missing NoQuery o) (limit_refusal Runs run_limit (length t.runs) 1)
-        (limit_refusal Picks pick_limit (length t.picks) (length (hits_found o t (moment_or_zero e.session))))
+    (limit_refusal Picks pick_limit (length t.picks) (length (hits_found o t (moment_or_zero e.session))))
 
 -- a run is refused as its verdict says
 pub run-verdict : (e : Engine) (t : Tables) (name : List ℕ) → Represents e t → IsSound t e.session
@@ -228,10 +238,10 @@ run-verdict e t name represents sound = go e.session.moment refl where
   go None none =
       let o = query_named (user_of e.session) name t in
       ap (λ m. option_or (missing NoMoment m) (option_or (look_refusal e name) (option_or (limit_refusal Runs run_limit e.run_count 1)
-              (limit_refusal Picks pick_limit e.pick_count (length (cached_hits e (cached_named e name))))))) none
+      (limit_refusal Picks pick_limit e.pick_count (length (cached_hits e (cached_named e name))))))) none
       ∙ sym (ap (λ m. first_refusal
-              (missing NoMoment m ∷ no_user e.session ∷ bad_name name ∷ missing NoQuery o ∷ limit_refusal Runs run_limit (length t.runs) 1
-                ∷ limit_refusal Picks pick_limit (length t.picks) (length (hits_found o t (moment_or_zero e.session))) ∷ [])) none)
+      (missing NoMoment m ∷ no_user e.session ∷ bad_name name ∷ missing NoQuery o ∷ limit_refusal Runs run_limit (length t.runs) 1
+      ∷ limit_refusal Picks pick_limit (length t.picks) (length (hits_found o t (moment_or_zero e.session))) ∷ [])) none)
   go (Some m) is = run-there e t name represents sound (some-moment e.session.moment m is)
 
 -- a run that isn't refused before its hits are counted
@@ -243,7 +253,7 @@ run-left e name kept m hits is-m look runs named is-hits =
     let picks : List Hit → Option Refusal = λ hits. limit_refusal Picks pick_limit e.pick_count (length hits) in
     let last = picks (cached_hits e (cached_named e name)) in
     ap (λ o. option_or (missing NoMoment o)
-        (option_or (query_refusal e.session e.queries name) (option_or (limit_refusal Runs run_limit e.run_count 1) last))) is-m
+    (option_or (query_refusal e.session e.queries name) (option_or (limit_refusal Runs run_limit e.run_count 1) last))) is-m
     ∙ ap (λ x. option_or x (option_or (limit_refusal Runs run_limit e.run_count 1) last)) look
     ∙ ap (λ x. option_or x last) runs
     ∙ ap (λ k. picks (cached_hits e k)) named
@@ -258,19 +268,24 @@ run-refuses e name refusal by t represents sound = refused-after _ _ refusal
 -- a query isn't defined without a moment
 pub define-moment : (e : Engine) (name source : List ℕ) → define_refusal e name source ≡ None → e.session.moment ≡ None → ⊥
 define-moment e name source none no_m = some-none NoMoment (sym (ap (λ m. option_or (missing NoMoment m) (option_or (no_user e.session)
-            (option_or (name_refusal e (user_of e.session) name) (option_or (text_fault (condition_text source))
-              (first_refusal (query_limits e (user_of e.session) (length (stored_source source)))))))) no_m) ∙ none)
+    (option_or (name_refusal e (user_of e.session) name) (option_or (text_fault (condition_text source))
+    (first_refusal (query_limits e (user_of e.session) (length (stored_source source)))))))) no_m) ∙ none)
 
 -- a query is defined
 pub answers-define : (t : Tables) (s : Session) (name source shown : List ℕ) (n : ℕ) (row : QueryRow) (change : Change) (s' : Session)
     → verdict (Define name source) s t ≡ None → n ≡ length t.queries
     → row ≡ record { num = record { 0 = n + 1 }; owner = user_of s; name = name; source = stored_source source; arrival = moment_or_zero s }
-        → shown ≡ row.name → change ≡ OneQuery row → s' ≡ s
+    → shown ≡ row.name → change ≡ OneQuery row → s' ≡ s
     → Answers t s (Define name source) (Defined shown) (Some change) s'
 answers-define t s name source shown n row change s' none count is-row is-shown is-change is-s =
     let accepted = answers-accepted t s (Define name source) none in
-    let same : row ≡ next_query t s name (stored_source source) = is-row ∙ ap (λ n. record { num = record { 0 = n + 1 }; owner = user_of s;
-            name = name; source = stored_source source; arrival = moment_or_zero s }) count in
+    let same : row ≡ next_query t s name (stored_source source) = is-row ∙ ap (λ n. record {
+      num = record { 0 = n + 1 };
+      owner = user_of s;
+      name = name;
+      source = stored_source source;
+      arrival = moment_or_zero s;
+    }) count in
     record {
       fine = none;
       reply_is = ap Defined (is-shown ∙ ap (λ r. r.name) same) ∙ accepted.reply_is;
@@ -282,19 +297,22 @@ answers-define t s name source shown n row change s' none count is-row is-shown 
 pub text-refused : (e : Engine) (name source : List ℕ) (refusal : Refusal) → no_moment e.session ≡ None → no_user e.session ≡ None
     → None ≡ name_refusal e (user_of e.session) name
     → (text_fault (condition_text source) ≡ Some refusal) ⊎ (refusal ≡ Memory)
-        → RefusedAfter (early_define e name) (define_refusal e name source) refusal
+    → RefusedAfter (early_define e name) (define_refusal e name source) refusal
 text-refused e name source refusal moment user named by =
     let user-is = user_of e.session in
     let limits = first_refusal (query_limits e user-is (length (stored_source source))) in
     let left : (rest : Option Refusal)
-        → option_or (no_moment e.session) (option_or (no_user e.session) (option_or (name_refusal e user-is name) rest)) ≡ rest = λ rest.
+    → option_or (no_moment e.session) (option_or (no_user e.session) (option_or (name_refusal e user-is name) rest)) ≡ rest = λ rest.
     ap (λ x. option_or x (option_or (no_user e.session) (option_or (name_refusal e user-is name) rest))) moment
     ∙ ap (λ x. option_or x (option_or (name_refusal e user-is name) rest)) user
     ∙ ap (λ x. option_or x rest) (sym named) in
     elim by [
       | inl refused ↦ inl (left (option_or (text_fault (condition_text source)) limits) ∙ ap (λ x. option_or x limits) refused)
-      | inr memory ↦ inr (memory, ap (λ x. option_or x (option_or (no_user e.session) (name_refusal e user-is name))) moment
-          ∙ ap (λ x. option_or x (name_refusal e user-is name)) user ∙ sym named)
+      | inr memory ↦ inr (
+        memory,
+        ap (λ x. option_or x (option_or (no_user e.session) (name_refusal e user-is name))) moment
+            ∙ ap (λ x. option_or x (name_refusal e user-is name)) user ∙ sym named,
+      )
     ]
 
 -- a box that isn't refused is of a query that there is
@@ -304,7 +322,7 @@ pub answers-box : (e : Engine) (t : Tables) (name : List ℕ) (entries : List En
 answers-box e t name entries represents sound none is = go (query_named (user_of e.session) name t) refl where
   accepted : Answers t e.session (BoxOf name)
       (show_box (query_named (user_of e.session) name t) name e.session t).reply (show_box (query_named (user_of e.session) name t) name
-        e.session t).change (show_box (query_named (user_of e.session) name t) name e.session t).session
+      e.session t).change (show_box (query_named (user_of e.session) name t) name e.session t).session
   accepted = answers-accepted t e.session (BoxOf name) (sym (box-verdict e t name represents) ∙ none)
 
   kept : Some entries ≡ cached_entries (option_map (cached_query t) (query_named (user_of e.session) name t))
@@ -315,9 +333,9 @@ answers-box e t name entries represents sound none is = go (query_named (user_of
   go None none' = absurd (some-entries entries (kept ∙ ap (λ o. cached_entries (option_map (cached_query t) o)) none'))
   go (Some q) some =
       let same : entries ≡ delivered q.num.0 t =
-          some-same entries (delivered q.num.0 t) (kept ∙ ap (λ o. cached_entries (option_map (cached_query t) o)) some) in
+      some-same entries (delivered q.num.0 t) (kept ∙ ap (λ o. cached_entries (option_map (cached_query t) o)) some) in
       let box = box-is query_truth start_of truth-of-second t q t.queries (find-in (is_query_of (user_of e.session) name) t.queries q some)
-          (sound.kept refl).each in
+      (sound.kept refl).each in
       record {
         fine = accepted.fine;
         reply_is = ap (Boxed name) (same ∙ box.box) ∙ sym (ap (λ o. (show_box o name e.session t).reply) some) ∙ accepted.reply_is;
@@ -329,4 +347,4 @@ answers-box e t name entries represents sound none is = go (query_named (user_of
 pub run-moment : (e : Engine) (name : List ℕ) → run_refusal e name ≡ None → e.session.moment ≡ None → ⊥
 run-moment e name none no_m = some-none NoMoment
     (sym (ap (λ m. option_or (missing NoMoment m) (option_or (look_refusal e name) (option_or (limit_refusal Runs run_limit e.run_count 1)
-              (limit_refusal Picks pick_limit e.pick_count (length (cached_hits e (cached_named e name))))))) no_m) ∙ none)
+    (limit_refusal Picks pick_limit e.pick_count (length (cached_hits e (cached_named e name))))))) no_m) ∙ none)

@@ -45,8 +45,12 @@ pub record IsDue (e : Engine) (t : Tables) (name : List ℕ) (due : Due) : Type 
   pub q : QueryRow
   pub some : query_named (user_of e.session) name t ≡ Some q
   pub has : In q t.queries
-  pub is : due ≡ record { query = q.num; moment = moment_or_zero e.session; runs = length (run_moments q.num.0 t.runs);
-        hits = hits_of q t (moment_or_zero e.session) }
+  pub is : due ≡ record {
+    query = q.num;
+    moment = moment_or_zero e.session;
+    runs = length (run_moments q.num.0 t.runs);
+    hits = hits_of q t (moment_or_zero e.session);
+  }
 
 no-due : (due : Due) → Some due ≡ None → ⊥
 no-due due e = cc
@@ -66,10 +70,14 @@ due-is e t name due represents sound there is = go (query_named (user_of e.sessi
     q = q;
     some = some;
     has = find-in (is_query_of (user_of e.session) name) t.queries q some;
-    is = same-due due (record { query = q.num; moment = moment_or_zero e.session; runs = length (run_moments q.num.0 t.runs);
-            hits = cached_hits e (Some (cached_query t q)) }) (kept ∙ ap (λ o. due_of e (option_map (cached_query t) o)) some)
+    is = same-due due (record {
+      query = q.num;
+      moment = moment_or_zero e.session;
+      runs = length (run_moments q.num.0 t.runs);
+      hits = cached_hits e (Some (cached_query t q));
+    }) (kept ∙ ap (λ o. due_of e (option_map (cached_query t) o)) some)
         ∙ ap (λ hits. record { query = q.num; moment = moment_or_zero e.session; runs = length (run_moments q.num.0 t.runs); hits = hits })
-            (hits-of-query e t q represents sound (find-in (is_query_of (user_of e.session) name) t.queries q some) there);
+        (hits-of-query e t q represents sound (find-in (is_query_of (user_of e.session) name) t.queries q some) there);
   }
 
 both-parts : (a a' b b' : List Entry) → a ≡ a' → b ≡ b' → a ++ b ≡ a' ++ b'
@@ -85,17 +93,17 @@ own-after t q m kept =
     let picks = pick_rows (length t.picks + 1) q.num (length t.runs + 1) hits in
     let moments : run_moments q.num.0 (t.runs ++ run ∷ []) ≡ run_moments q.num.0 t.runs ++ m ∷ [] = moments-new q.num.0 t.runs run refl in
     let both : picks_of q.num.0 (t.picks ++ picks) ≡ picks_of q.num.0 t.picks ++ picks = filter-append (λ pick. pick.query.0 == q.num.0)
-        t.picks picks ∙ ap (λ more. picks_of q.num.0 t.picks ++ more) (picks-all (length t.picks + 1) q.num (length t.runs + 1) hits) in
+    t.picks picks ∙ ap (λ more. picks_of q.num.0 t.picks ++ more) (picks-all (length t.picks + 1) q.num (length t.runs + 1) hits) in
     let place = ordinal-new q.num.0 t.runs run kept.runs refl refl in
     same-cached q (covered (start_of q) q.num.0 (t.runs ++ run ∷ [])) m (length (run_moments q.num.0 (t.runs ++ run ∷ [])))
-      (length (run_moments q.num.0 t.runs) + 1)
+    (length (run_moments q.num.0 t.runs) + 1)
     (map (picked (t.runs ++ run ∷ [])) (picks_of q.num.0 (t.picks ++ picks)))
-      (delivered q.num.0 t ++ map (entry_at (length (run_moments q.num.0 t.runs) + 1)) hits)
+    (delivered q.num.0 t ++ map (entry_at (length (run_moments q.num.0 t.runs) + 1)) hits)
     (ap (last_or (start_of q)) moments ∙ last-more (start_of q) m (run_moments q.num.0 t.runs))
     (ap length moments ∙ length-append (run_moments q.num.0 t.runs) (m ∷ []))
     (ap (map (picked (t.runs ++ run ∷ []))) both ∙ map-append (picked (t.runs ++ run ∷ [])) (picks_of q.num.0 t.picks) picks
     ∙ both-parts _ _ _ _ (old-picks q.num.0 t.runs run t.picks kept.picks) (new-picks (t.runs ++ run ∷ []) (length t.picks + 1)
-          q.num (length t.runs + 1) (length (run_moments q.num.0 t.runs) + 1) hits place))
+    q.num (length t.runs + 1) (length (run_moments q.num.0 t.runs) + 1) hits place))
 
 -- another query after that run
 other-after : (t : Tables) (q other : QueryRow) (m : ℤ) → IsKept query_truth start_of t → (q.num.0 ≡ other.num.0 → ⊥)
@@ -105,14 +113,14 @@ other-after t q other m kept differs =
     let hits = hits_of q t m in
     let picks = pick_rows (length t.picks + 1) q.num (length t.runs + 1) hits in
     let moments : run_moments other.num.0 (t.runs ++ run ∷ []) ≡ run_moments other.num.0 t.runs =
-        moments-other other.num.0 t.runs run differs in
+    moments-other other.num.0 t.runs run differs in
     let own : picks_of other.num.0 (t.picks ++ picks) ≡ picks_of other.num.0 t.picks = filter-none (λ pick. pick.query.0 == other.num.0)
-        t.picks picks (picks-none other.num.0 (length t.picks + 1) q.num (length t.runs + 1) hits differs) in
+    t.picks picks (picks-none other.num.0 (length t.picks + 1) q.num (length t.runs + 1) hits differs) in
     same-cached other (covered (start_of other) other.num.0 (t.runs ++ run ∷ [])) (covered (start_of other) other.num.0 t.runs)
-      (length (run_moments other.num.0 (t.runs ++ run ∷ []))) (length (run_moments other.num.0 t.runs))
+    (length (run_moments other.num.0 (t.runs ++ run ∷ []))) (length (run_moments other.num.0 t.runs))
     (map (picked (t.runs ++ run ∷ [])) (picks_of other.num.0 (t.picks ++ picks))) (delivered other.num.0 t)
     (ap (last_or (start_of other)) moments) (ap length moments)
-      (ap (map (picked (t.runs ++ run ∷ []))) own ∙ old-picks other.num.0 t.runs run t.picks kept.picks)
+    (ap (map (picked (t.runs ++ run ∷ []))) own ∙ old-picks other.num.0 t.runs run t.picks kept.picks)
 
 -- the query in memory there
 pub due-kept : (e : Engine) (t : Tables) (due : Due) (q : QueryRow) (x : CachedQuery) → Represents e t → IsKept query_truth start_of t
@@ -129,14 +137,18 @@ rows-many num query run (hit ∷ hits) = ap suc (rows-many (num + 1) query run h
 -- the engine with one more run
 represents-placed : (e : Engine) (t : Tables) (h : HitsWithRoom) (q : QueryRow) (i : ℕ) (m : ℤ) (kept : CachedQuery) → Represents e t
     → IsKept query_truth start_of t → In q t.queries → q.num.0 ≡ 1 + i → (e.session.moment ≡ None → ⊥) → kept ≡ cached_query t q
-    → Represents (record e { hits = h; queries = slice_set e.queries i
-            (after_run m (map (entry_at (length (run_moments q.num.0 t.runs) + 1)) (hits_of q t m)) kept); run_count = e.run_count + 1;
-            pick_count = e.pick_count + length (hits_of q t m) }) (after t (run_change (query_truth q) (start_of q) t q.num m))
+    → Represents (record e {
+      hits = h;
+      queries = slice_set e.queries i
+          (after_run m (map (entry_at (length (run_moments q.num.0 t.runs) + 1)) (hits_of q t m)) kept);
+      run_count = e.run_count + 1;
+      pick_count = e.pick_count + length (hits_of q t m);
+    }) (after t (run_change (query_truth q) (start_of q) t q.num m))
 represents-placed e t h q i m kept represents is-kept has at there is = record {
   rows = represents.rows;
   queries = rw (represents.queries, is, sym (own-after t q m is-kept))
       (placed-set (cached_query t) (cached_query (after t (run_change (query_truth q) (start_of q) t q.num m))) 1 i t.queries q
-        is-kept.queries has at (λ other differs. other-after t q other m is-kept differs));
+      is-kept.queries has at (λ other differs. other-after t q other m is-kept differs));
   run_count = ap (λ n. n + 1) represents.run_count ∙ sym (length-append t.runs (next_run t q.num m ∷ []));
   pick_count = ap (λ n. n + length (hits_of q t m)) represents.pick_count
       ∙ ap (λ n. length t.picks + n) (sym (rows-many (length t.picks + 1) q.num (length t.runs + 1) (hits_of q t m)))
@@ -161,9 +173,13 @@ rows-are e t name due represents d = ap (λ n. run_rows n e.pick_count due) repr
 
 pub represents-run : (e : Engine) (t : Tables) (name : List ℕ) (due : Due) (h : HitsWithRoom) (e' : Engine) → Represents e t
     → IsKept query_truth start_of t → (d : IsDue e t name due) → (e.session.moment ≡ None → ⊥)
-    → ((x : CachedQuery) → e' ≡ record e { hits = h; queries = slice_set e.queries (due.query.0 - 1)
-            (after_run due.moment (map (entry_at (due.runs + 1)) due.hits) (slice_index_or e.queries (due.query.0 - 1) x));
-            run_count = e.run_count + 1; pick_count = e.pick_count + length due.hits })
+    → ((x : CachedQuery) → e' ≡ record e {
+      hits = h;
+      queries = slice_set e.queries (due.query.0 - 1)
+          (after_run due.moment (map (entry_at (due.runs + 1)) due.hits) (slice_index_or e.queries (due.query.0 - 1) x));
+      run_count = e.run_count + 1;
+      pick_count = e.pick_count + length due.hits;
+    })
     → Represents e' (after t (run_rows e.run_count e.pick_count due))
 represents-run e t name due h e' represents kept d there is-e =
     let q = d.q in
@@ -171,24 +187,32 @@ represents-run e t name due h e' represents kept d there is-e =
     let x : CachedQuery = cached_query t q in
     let i : ℕ = due.query.0 - 1 in
     let bounds = query-bounds 1 t.queries q kept.queries d.has in
-    let engine : e' ≡ record e { hits = h;
-          queries = slice_set e.queries i (after_run (moment_or_zero e.session) (map (entry_at (length (run_moments q.num.0 t.runs) + 1))
-              (hits_of q t (moment_or_zero e.session))) (slice_index_or e.queries i x)); run_count = e.run_count + 1;
-          pick_count = e.pick_count + length (hits_of q t (moment_or_zero e.session)) } =
-    is-e x ∙ ap (λ y. record e { hits = h; queries = slice_set e.queries i (after_run y.moment (map (entry_at (y.runs + 1)) y.hits)
-              (slice_index_or e.queries i x)); run_count = e.run_count + 1; pick_count = e.pick_count + length y.hits }) d.is in
+    let engine : e' ≡ record e {
+      hits = h;
+      queries = slice_set e.queries i (after_run (moment_or_zero e.session) (map (entry_at (length (run_moments q.num.0 t.runs) + 1))
+          (hits_of q t (moment_or_zero e.session))) (slice_index_or e.queries i x));
+      run_count = e.run_count + 1;
+      pick_count = e.pick_count + length (hits_of q t (moment_or_zero e.session));
+    } =
+    is-e x ∙ ap (λ y. record e {
+      hits = h;
+      queries = slice_set e.queries i (after_run y.moment (map (entry_at (y.runs + 1)) y.hits)
+          (slice_index_or e.queries i x));
+      run_count = e.run_count + 1;
+      pick_count = e.pick_count + length y.hits;
+    }) d.is in
     let rows : run_rows e.run_count e.pick_count due ≡ run_change (query_truth q) (start_of q) t q.num (moment_or_zero e.session) =
-        rows-are e t name due represents d in
+    rows-are e t name due represents d in
     subst (λ change. Represents e' (after t change)) (sym rows)
-      (subst (λ k. Represents k (after t (run_change (query_truth q) (start_of q) t q.num (moment_or_zero e.session)))) (sym engine)
-        (represents-placed e t h q i (moment_or_zero e.session) (slice_index_or e.queries i x) represents kept
-          d.has (omega (arith, num, bounds.0)) there (due-kept e t due q x represents kept d.has num)))
+    (subst (λ k. Represents k (after t (run_change (query_truth q) (start_of q) t q.num (moment_or_zero e.session)))) (sym engine)
+    (represents-placed e t h q i (moment_or_zero e.session) (slice_index_or e.queries i x) represents kept
+    d.has (omega (arith, num, bounds.0)) there (due-kept e t due q x represents kept d.has num)))
 
 -- a run that isn't refused
 pub answers-run : (e : Engine) (t : Tables) (name : List ℕ) (due : Due) (change : Change) (s' : Session) → Represents e t
     → verdict (Run name) e.session t ≡ None → (d : IsDue e t name due)
     → change ≡ run_rows e.run_count e.pick_count due → s' ≡ e.session
-        → Answers t e.session (Run name) (Ran (due.runs + 1) due.moment due.hits) (Some change) s'
+    → Answers t e.session (Run name) (Ran (due.runs + 1) due.moment due.hits) (Some change) s'
 answers-run e t name due change s' represents none d is-change is-s =
     let accepted = answers-accepted t e.session (Run name) none in
     let q = d.q in

@@ -73,9 +73,9 @@ pub filter-verdict : (e : Engine) (t : Tables) (block : Block) → Represents e 
 unfolding filter_limits
 filter-verdict e t block represents =
     seven (no_moment e.session) (no_user e.session) (long_filter block)
-      (limit_refusal Users user_limit (length e.owners) (if has_text e.owners (user_of e.session) then 0 else 1))
-      (limit_refusal Filters filter_limit (length e.filters) 1) (limit_refusal Store store_limit e.bytes (length (block_text block)))
-      (filter_fault (block_text block))
+    (limit_refusal Users user_limit (length e.owners) (if has_text e.owners (user_of e.session) then 0 else 1))
+    (limit_refusal Filters filter_limit (length e.filters) 1) (limit_refusal Store store_limit e.bytes (length (block_text block)))
+    (filter_fault (block_text block))
     ∙ rw (represents.filters, represents.users, represents.owners (user_of e.session), represents.bytes) refl
 
 six : (a b c x y z : Option Refusal)
@@ -91,27 +91,27 @@ early-filter : (e : Engine) (t : Tables) (block : Block) → Represents e t
 unfolding filter_limits
 early-filter e t block represents =
     six (no_moment e.session) (no_user e.session) (long_filter block)
-      (limit_refusal Users user_limit (length e.owners) (if has_text e.owners (user_of e.session) then 0 else 1))
-      (limit_refusal Filters filter_limit (length e.filters) 1) (limit_refusal Store store_limit e.bytes (length (block_text block)))
+    (limit_refusal Users user_limit (length e.owners) (if has_text e.owners (user_of e.session) then 0 else 1))
+    (limit_refusal Filters filter_limit (length e.filters) 1) (limit_refusal Store store_limit e.bytes (length (block_text block)))
     ∙ rw (represents.filters, represents.users, represents.owners (user_of e.session), represents.bytes) refl
 
 pub filter-refuses : (e : Engine) (block : Block) (refusal : Refusal) → RefusedAfter (early_filter e block) (filter_refusal e block) refusal
     → (t : Tables) → Represents e t → Refuses refusal (Filter block) e.session t
 filter-refuses e block refusal by t represents =
     refused-after _ _ refusal (subst (λ x. RefusedAfter x (verdict (Filter block) e.session t) refusal) (early-filter e t block represents)
-        (subst (λ v. RefusedAfter (early_filter e block) v refusal) (filter-verdict e t block represents) by))
+    (subst (λ v. RefusedAfter (early_filter e block) v refusal) (filter-verdict e t block represents) by))
 
 -- a filter isn't added without a moment
 pub filter-moment : (e : Engine) (block : Block) → filter_refusal e block ≡ None → e.session.moment ≡ None → ⊥
 filter-moment e block none no_m = some-none NoMoment
     (sym (ap (λ m. option_or (missing NoMoment m) (option_or (no_user e.session) (option_or (long_filter block) (option_or (first_refusal
-              (filter_limits e (user_of e.session) (length (block_text block)))) (filter_fault (block_text block)))))) no_m) ∙ none)
+    (filter_limits e (user_of e.session) (length (block_text block)))) (filter_fault (block_text block)))))) no_m) ∙ none)
 
 -- a filter is refused for its text, or is out of memory, once it isn't refused before
 pub text-refused : (e : Engine) (block : Block) (refusal : Refusal) → no_moment e.session ≡ None → no_user e.session ≡ None
     → long_filter block ≡ None → first_refusal (filter_limits e (user_of e.session) (length (block_text block))) ≡ None
     → (filter_fault (block_text block) ≡ Some refusal) ⊎ (refusal ≡ Memory)
-        → RefusedAfter (early_filter e block) (filter_refusal e block) refusal
+    → RefusedAfter (early_filter e block) (filter_refusal e block) refusal
 text-refused e block refusal moment user long limits by =
     let fault = filter_fault (block_text block) in
     let bound = first_refusal (filter_limits e (user_of e.session) (length (block_text block))) in
@@ -134,12 +134,12 @@ text-refused e block refusal moment user long limits by =
 pub answers-filter : (t : Tables) (s : Session) (block : Block) (n count : ℕ) (row : FilterRow) (change : Change) (s' : Session)
     → verdict (Filter block) s t ≡ None → n ≡ length t.filters
     → row ≡ record { num = n + 1; owner = user_of s; source = block_text block; arrival = moment_or_zero s }
-        → count ≡ length (rules_in_text (block_text block)) → change ≡ OneFilter row → s' ≡ s
+    → count ≡ length (rules_in_text (block_text block)) → change ≡ OneFilter row → s' ≡ s
     → Answers t s (Filter block) (FilterAdded count) (Some change) s'
 answers-filter t s block n count row change s' none at is-row is-count is-change is-s =
     let accepted = answers-accepted t s (Filter block) none in
     let same : row ≡ next_filter t s (block_text block) = is-row
-        ∙ ap (λ n. record { num = n + 1; owner = user_of s; source = block_text block; arrival = moment_or_zero s }) at in
+    ∙ ap (λ n. record { num = n + 1; owner = user_of s; source = block_text block; arrival = moment_or_zero s }) at in
     record {
       fine = none;
       reply_is = ap FilterAdded is-count ∙ accepted.reply_is;
@@ -150,7 +150,7 @@ answers-filter t s block n count row change s' none at is-row is-count is-change
 -- the engine with one more filter
 pub represents-filter : (e : Engine) (t : Tables) (row : FilterRow) → Represents e t → (e.session.moment ≡ None → ⊥)
     → Represents (record e { filters = e.filters ++ row ∷ []; owners = with_owner e.owners row.owner; bytes = e.bytes + length row.source })
-        (after t (OneFilter row))
+    (after t (OneFilter row))
 represents-filter e t row represents there = record {
   rows = represents.rows;
   queries = represents.queries;
@@ -199,7 +199,7 @@ pub listing_short : (o : Option FilterRow) (docs : List Doc) (entries : List Ent
     → rows ≡ listing_of (filter_rules o) docs entries → All (λ row. length row.class ≤ 32) rows
 listing_short o docs entries rows is =
     All-weaker Classed (λ row. length row.class ≤ 32) (λ row. short row.class) rows
-      (subst (All Classed) (sym is) (sorted-named (filter_rules o) docs entries (filter-named o)))
+    (subst (All Classed) (sym is) (sorted-named (filter_rules o) docs entries (filter-named o)))
 
 -- a list is refused as a box is
 pub list-refuses : (e : Engine) (name : List ℕ) (refusal : Refusal) → RefusedBy (look_refusal e name) refusal → (t : Tables)
@@ -220,7 +220,7 @@ pub answers-list : (e : Engine) (t : Tables) (name : List ℕ) (rows : List List
 answers-list e t name rows represents sound none is = go (query_named (user_of e.session) name t) refl where
   accepted : Answers t e.session (ListOf name)
       (show_list (query_named (user_of e.session) name t) name e.session t).reply (show_list (query_named (user_of e.session) name t) name
-        e.session t).change (show_list (query_named (user_of e.session) name t) name e.session t).session
+      e.session t).change (show_list (query_named (user_of e.session) name t) name e.session t).session
   accepted = answers-accepted t e.session (ListOf name) (sym (box-verdict e t name represents) ∙ none)
 
   rules : List Rule
@@ -234,12 +234,12 @@ answers-list e t name rows represents sound none is = go (query_named (user_of e
   go None none' = absurd (some-rows rows (kept ∙ ap (λ o. cached_rows e (option_map (cached_query t) o)) none'))
   go (Some q) some =
       let by-kept : Some rows
-          ≡ Some (listing_of (filter_rules (last_filter (user_of e.session) e.filters)) e.index.docs (delivered q.num.0 t)) = kept
-          ∙ ap (λ o. cached_rows e (option_map (cached_query t) o)) some in
+      ≡ Some (listing_of (filter_rules (last_filter (user_of e.session) e.filters)) e.index.docs (delivered q.num.0 t)) = kept
+      ∙ ap (λ o. cached_rows e (option_map (cached_query t) o)) some in
       let same : rows ≡ listing_of (filter_rules (last_filter (user_of e.session) e.filters)) e.index.docs (delivered q.num.0 t) =
-          some-same rows _ by-kept in
+      some-same rows _ by-kept in
       let box = box-is query_truth start_of truth-of-second t q t.queries (find-in (is_query_of (user_of e.session) name) t.queries q some)
-          (sound.kept refl).each in
+      (sound.kept refl).each in
       let whole : rows ≡ listing_of rules t.docs (box_of_query q t) =
       same ∙ ap (λ fs. listing_of (filter_rules (last_filter (user_of e.session) fs)) e.index.docs (delivered q.num.0 t)) represents.filters
       ∙ ap (λ docs. listing_of rules docs (delivered q.num.0 t)) (docs-are represents) ∙ ap (listing_of rules t.docs) box.box in
@@ -268,7 +268,7 @@ pub answers-lines : (e : Engine) (t : Tables) (name : List ℕ) (lines : List (L
 answers-lines e t name lines represents none is = go (query_named (user_of e.session) name t) refl where
   accepted : Answers t e.session (Explain name)
       (show_lines (query_named (user_of e.session) name t) name e.session t).reply (show_lines (query_named (user_of e.session) name t) name
-        e.session t).change (show_lines (query_named (user_of e.session) name t) name e.session t).session
+      e.session t).change (show_lines (query_named (user_of e.session) name t) name e.session t).session
   accepted = answers-accepted t e.session (Explain name) (sym (box-verdict e t name represents) ∙ none)
 
   kept : Some lines ≡ cached_lines (option_map (cached_query t) (query_named (user_of e.session) name t))

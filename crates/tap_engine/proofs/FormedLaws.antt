@@ -44,9 +44,10 @@ notes-standing docs place low (note ∷ notes) from e =
     let here = and_parts _ _ this.0 in
     let moment = follows low note.arrival here.1 in
     let above : pos 0 ≤ℤ note.arrival = omega (arith, ints, moment.0, from) in
-    let rest = notes-standing docs (place + 1) note.arrival notes above both.1 in
-    ((equal note.num.0 place here.0, moment.0, (above, moment.1), rest.0),
-      (within (one-of (λ doc. int_le doc.arrival note.arrival) note.doc.0 docs this.1), rest.1))
+    let rest = notes-standing docs (place + 1) note.arrival notes above both.1 in (
+      (equal note.num.0 place here.0, moment.0, (above, moment.1), rest.0),
+      (within (one-of (λ doc. int_le doc.arrival note.arrival) note.doc.0 docs this.1), rest.1),
+    )
 
 -- no query picks a document twice
 not-true : (b : Bool) → not b ≡ true → b ≡ false
@@ -58,7 +59,7 @@ picks-once : (runs : List RunRow) (docs : List Doc) (earlier : List Pick) (place
 picks-once runs docs earlier place before [] e = tt
 picks-once runs docs earlier place before (pick ∷ picks) e =
     let both = and_parts (pick_stands runs docs earlier place before pick)
-        (picks_stand runs docs (earlier ++ pick ∷ []) (place + 1) (Some pick) picks) e in
+    (picks_stand runs docs (earlier ++ pick ∷ []) (place + 1) (Some pick) picks) e in
     let order = and_parts _ _ both.0 in
     let once = and_parts _ _ order.0 in
     (not-true _ once.1, picks-once runs docs (earlier ++ pick ∷ []) (place + 1) (Some pick) picks both.1)

@@ -38,7 +38,7 @@ rated-is e t user q represents =
 mapped : (e : Engine) (t : Tables) (user name : List ℕ) → Represents e t → IsSound t e.session → (o : Option QueryRow)
     → query_named user name t ≡ o
     → option_map (rated_by user e) (option_map (cached_query t) o)
-        ≡ option_map (λ query. listing_of (rules_of_user user t) t.docs (box_of_query query t)) o
+    ≡ option_map (λ query. listing_of (rules_of_user user t) t.docs (box_of_query query t)) o
 mapped e t user name represents sound None is = refl
 mapped e t user name represents sound (Some q) is =
     let box = box-is query_truth start_of truth-of-second t q t.queries (find-in (is_query_of user name) t.queries q is) sound.kept.each in

@@ -88,7 +88,7 @@ lookup-verdict : (lookup : Lookup) (e : Engine) (t : Tables) → Represents e t 
     → lookup_refusal lookup e ≡ verdict (Find lookup) e.session t
 lookup-verdict (ShowDoc num) e t represents numbered =
     doc-missing num e.index.docs numbered ∙ ap (λ docs. no_doc num (length docs)) (docs-are represents)
-      ∙ sym (one (no_doc num (length t.docs)))
+    ∙ sym (one (no_doc num (length t.docs)))
 lookup-verdict (ListNotes num) e t represents numbered = ap (λ docs. no_doc num (length docs)) (docs-are represents)
     ∙ sym (one (no_doc num (length t.docs)))
 lookup-verdict ListQueries e t represents numbered = sym (one (no_user e.session))
@@ -118,7 +118,7 @@ line-same t q kept =
     (record { arrival = q.arrival; start = start_of q; runs = length (run_moments q.num.0 t.runs); last = last; boxed = length entries })
     (condition_text q.source) in
     ap (λ last. shows last (cached_query t q).entries) (last-same (start_of q) (run_moments q.num.0 t.runs))
-      ∙ ap (shows (last_of (run_moments q.num.0 t.runs))) kept.box
+    ∙ ap (shows (last_of (run_moments q.num.0 t.runs))) kept.box
 
 -- the lines of the user's queries, whose boxes are what they delivered
 lines-same : (user : List ℕ) (t : Tables) (qs : List QueryRow) → Each (IsKeptQuery query_truth start_of t) qs
@@ -146,15 +146,15 @@ found-same : (lookup : Lookup) (e : Engine) (t : Tables) → Represents e t → 
 found-same (ShowDoc num) e t represents sound = ap (λ docs. shown_doc num (doc_numbered num docs)) (docs-are represents)
 found-same (ListNotes num) e t represents sound =
     ap (λ notes. Found (DocNotes num) (map note_text notes)) (notes-same num e.index.notes)
-      ∙ ap (λ notes. Found (DocNotes num) (map note_text (notes_on num notes))) (notes-are represents)
+    ∙ ap (λ notes. Found (DocNotes num) (map note_text (notes_on num notes))) (notes-are represents)
 found-same ListQueries e t represents sound =
     ap (λ queries. Found UserQueries (owned_lines (user_of e.session) queries)) represents.queries
-      ∙ ap (Found UserQueries) (lines-same (user_of e.session) t t.queries (sound.kept refl).each)
+    ∙ ap (Found UserQueries) (lines-same (user_of e.session) t t.queries (sound.kept refl).each)
 found-same Count e t represents sound =
     ap (λ docs. Found (Counts (length docs) (length e.index.notes) (or_zero (option_or e.session.moment e.greatest))) [])
-      (docs-are represents)
+    (docs-are represents)
     ∙ ap (λ notes. Found (Counts (length t.docs) (length notes) (or_zero (option_or e.session.moment e.greatest))) [])
-        (notes-are represents)
+    (notes-are represents)
     ∙ ap (λ moment. Found (Counts (length t.docs) (length t.notes) (or_zero moment)) []) (moment-same e t represents)
 
 answers-lookup : (lookup : Lookup) (e : Engine) (t : Tables) (reply : Reply) → Represents e t → IsSoundFor (Find lookup) t e.session
@@ -188,7 +188,7 @@ pub prepared-as : (lookup : Lookup) (e : Engine) (c : Command) (reply : Reply) (
 prepared-as lookup e c reply made is made-is reads t represents =
     subst (λ k. IsSoundFor k t e.session → Answers t e.session k made.reply made.change e.session) (sym is)
     (subst (λ m. IsSoundFor (Find lookup) t e.session → Answers t e.session (Find lookup) m.reply m.change e.session) (sym made-is)
-      (reads t represents))
+    (reads t represents))
 
 -- the steps that a look-up may take
 pub most-lookup : (lookup : Lookup) (e : Engine) (new old : ℕ) → new ≤ old + cached_lookup_work lookup e → (t : Tables) → Represents e t

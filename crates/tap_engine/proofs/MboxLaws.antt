@@ -42,8 +42,8 @@ pub mbox-verdict : (e : Engine) (t : Tables) (block : Block) → Represents e t 
 unfolding mbox_bounds
 mbox-verdict e t block represents =
     first-or (no_moment e.session)
-      (long_message (messages_of block) ∷ long_block block ∷ limit_refusal Documents document_limit (length e.index.docs)
-        (length (messages_of block)) ∷ limit_refusal Store store_limit e.bytes (bytes_of_all (messages_of block)) ∷ [])
+    (long_message (messages_of block) ∷ long_block block ∷ limit_refusal Documents document_limit (length e.index.docs)
+    (length (messages_of block)) ∷ limit_refusal Store store_limit e.bytes (bytes_of_all (messages_of block)) ∷ [])
     ∙ rw (docs-are represents, represents.bytes) refl
 
 alone : (x : Option Refusal) → x ≡ first_refusal (x ∷ [])
@@ -54,7 +54,7 @@ pub mbox-refuses : (e : Engine) (block : Block) (refusal : Refusal) → RefusedA
     → (t : Tables) → Represents e t → Refuses refusal (Mbox block) e.session t
 mbox-refuses e block refusal by t represents =
     refused-after _ _ refusal (subst (λ x. RefusedAfter x (verdict (Mbox block) e.session t) refusal) (alone (no_moment e.session))
-        (subst (λ v. RefusedAfter (no_moment e.session) v refusal) (mbox-verdict e t block represents) by))
+    (subst (λ v. RefusedAfter (no_moment e.session) v refusal) (mbox-verdict e t block represents) by))
 
 -- none is added without a moment
 pub mbox-moment : (e : Engine) (block : Block) → mbox_refusal e block ≡ None → e.session.moment ≡ None → ⊥
@@ -73,7 +73,7 @@ few-bytes (message ∷ messages) e =
     let both = both-true (nat_le (length message) 1048576) (are_short messages) e in
     let rest = few-bytes messages both.1 in
     rw (sum_by-cons length message messages)
-      (step (length message) (bytes_of_all messages) (length messages) (le (length message) both.0) rest)
+    (step (length message) (bytes_of_all messages) (length messages) (le (length message) both.0) rest)
   where
     le : (n : ℕ) → nat_le n 1048576 ≡ true → n ≤ 1048576
     le n h = grind arith
@@ -91,14 +91,14 @@ docs-bytes : (num : ℕ) (moment : ℤ) (texts : List (List ℕ))
 docs-bytes num moment [] = refl
 docs-bytes num moment (text ∷ texts) =
     sum_by-cons (λ doc. length doc.text) (record { num = record { 0 = num }; arrival = moment; text = text })
-        (docs_from (num + 1) moment texts)
+    (docs_from (num + 1) moment texts)
     ∙ ap (λ n. length text + n) (docs-bytes (num + 1) moment texts) ∙ sym (sum_by-cons length text texts)
 
 -- the messages are added
 pub answers-mbox : (t : Tables) (s : Session) (block : Block) (texts : List (List ℕ)) (count first : ℕ) (n : ℕ) (moment : ℤ)
     (change : Option Change) (s' : Session) → verdict (Mbox block) s t ≡ None → texts ≡ messages_of block → moment ≡ moment_or_zero s
     → count ≡ length texts → n ≡ length t.docs → first ≡ n + 1 → change ≡ some_docs (docs_from (n + 1) moment texts) → s' ≡ s
-        → Answers t s (Mbox block) (DocsAdded count first) change s'
+    → Answers t s (Mbox block) (DocsAdded count first) change s'
 answers-mbox t s block texts count first n moment change s' none is at is-count is-n is-first is-change is-s =
     let accepted = answers-accepted t s (Mbox block) none in
     record {
@@ -115,7 +115,7 @@ answers-mbox t s block texts count first n moment change s' none is at is-count 
 pub represents-docs : (e : Engine) (t : Tables) (h : HitsWithRoom) (moment : ℤ) (texts : List (List ℕ)) → Represents e t
     → (e.session.moment ≡ None → ⊥)
     → Represents (record e { index = after e.index (Docs (next_docs t moment texts)); hits = h; bytes = e.bytes + bytes_of_all texts })
-        (tables_after (some_docs (next_docs t moment texts)) t)
+    (tables_after (some_docs (next_docs t moment texts)) t)
 represents-docs e t h moment texts represents there = rw (docs-change t (next_docs t moment texts)) (record {
   rows = ap (λ rows. after rows (Docs (next_docs t moment texts))) represents.rows;
   queries = represents.queries;
@@ -125,7 +125,7 @@ represents-docs e t h moment texts represents there = rw (docs-change t (next_do
       (sum_by (λ query. length query.source) t.queries) (sum_by (λ filter. length filter.source) t.filters) _ _ (bytes_of_all texts)
       represents.bytes
       (sum_by-append (λ doc. length doc.text) t.docs (next_docs t moment texts)
-        ∙ ap (λ n. sum_by (λ doc. length doc.text) t.docs + n) (docs-bytes (length t.docs + 1) moment texts));
+      ∙ ap (λ n. sum_by (λ doc. length doc.text) t.docs + n) (docs-bytes (length t.docs + 1) moment texts));
   users = represents.users;
   owners = represents.owners;
   filters = represents.filters;
@@ -138,12 +138,18 @@ represents-docs e t h moment texts represents there = rw (docs-change t (next_do
 -- the engine with more documents, by how many there are
 pub represents-more : (e : Engine) (t : Tables) (h : HitsWithRoom) (moment : ℤ) (texts : List (List ℕ)) → Represents e t
     → (e.session.moment ≡ None → ⊥)
-    → Represents (record e { index = after e.index (Docs (docs_from (length e.index.docs + 1) moment texts)); hits = h;
-            bytes = e.bytes + bytes_of_all texts }) (tables_after (some_docs (docs_from (length e.index.docs + 1) moment texts)) t)
+    → Represents (record e {
+      index = after e.index (Docs (docs_from (length e.index.docs + 1) moment texts));
+      hits = h;
+      bytes = e.bytes + bytes_of_all texts;
+    }) (tables_after (some_docs (docs_from (length e.index.docs + 1) moment texts)) t)
 represents-more e t h moment texts represents there =
-    subst (λ n. Represents (record e { index = after e.index (Docs (docs_from (n + 1) moment texts)); hits = h;
-              bytes = e.bytes + bytes_of_all texts }) (tables_after (some_docs (docs_from (n + 1) moment texts)) t))
-        (sym (ap length (docs-are represents))) (represents-docs e t h moment texts represents there)
+    subst (λ n. Represents (record e {
+      index = after e.index (Docs (docs_from (n + 1) moment texts));
+      hits = h;
+      bytes = e.bytes + bytes_of_all texts;
+    }) (tables_after (some_docs (docs_from (n + 1) moment texts)) t))
+    (sym (ap length (docs-are represents))) (represents-docs e t h moment texts represents there)
 
 -- documents that there are
 pub docs-there : (num : ℕ) (moment : ℤ) (texts : List (List ℕ)) → (length texts == 0) ≡ false

@@ -42,7 +42,7 @@ pub note-verdict : (e : Engine) (t : Tables) (doc : ℕ) (kind : List ℕ) (valu
 unfolding note_bounds
 note-verdict e t doc kind value text represents =
     four (no_moment e.session) (no_user e.session) (bad_name kind) (no_doc doc (length e.index.docs) ∷ long_note (length text)
-        ∷ limit_refusal Notes note_limit (length e.index.notes) 1 ∷ limit_refusal Store store_limit e.bytes (length text) ∷ [])
+    ∷ limit_refusal Notes note_limit (length e.index.notes) 1 ∷ limit_refusal Store store_limit e.bytes (length text) ∷ [])
     ∙ rw (docs-are represents, notes-are represents, represents.bytes) refl
 
 pub note-refuses : (e : Engine) (doc : ℕ) (kind : List ℕ) (value : ℤ) (text : List ℕ) (refusal : Refusal)
@@ -54,18 +54,32 @@ note-refuses e doc kind value text refusal
 -- a note isn't added without a moment
 pub note-moment : (e : Engine) (doc : ℕ) (kind text : List ℕ) → note_refusal e doc kind text ≡ None → e.session.moment ≡ None → ⊥
 note-moment e doc kind text none no_m = some-none NoMoment (sym (ap (λ m. option_or (missing NoMoment m)
-          (option_or (no_user e.session) (option_or (bad_name kind) (note_bounds e doc (length text))))) no_m) ∙ none)
+    (option_or (no_user e.session) (option_or (bad_name kind) (note_bounds e doc (length text))))) no_m) ∙ none)
 
 -- a note is added
 pub answers-note : (t : Tables) (s : Session) (doc : ℕ) (kind : List ℕ) (value : ℤ) (text : List ℕ) (n : ℕ) (note : Note) (change : Change)
     (s' : Session) → verdict (AddNote doc kind value text) s t ≡ None → n ≡ length t.notes
-    → note ≡ record { num = record { 0 = n + 1 }; doc = record { 0 = doc }; author = user_of s; kind = kind; value = value;
-          arrival = moment_or_zero s; text = text } → change ≡ OneNote note → s' ≡ s
+    → note ≡ record {
+      num = record { 0 = n + 1 };
+      doc = record { 0 = doc };
+      author = user_of s;
+      kind = kind;
+      value = value;
+      arrival = moment_or_zero s;
+      text = text;
+    } → change ≡ OneNote note → s' ≡ s
     → Answers t s (AddNote doc kind value text) (NoteAdded note.num) (Some change) s'
 answers-note t s doc kind value text n note change s' none count is-note is-change is-s =
     let accepted = answers-accepted t s (AddNote doc kind value text) none in
-    let same : note ≡ next_note t s doc kind value text = is-note ∙ ap (λ n. record { num = record { 0 = n + 1 }; doc = record { 0 = doc };
-            author = user_of s; kind = kind; value = value; arrival = moment_or_zero s; text = text }) count in
+    let same : note ≡ next_note t s doc kind value text = is-note ∙ ap (λ n. record {
+      num = record { 0 = n + 1 };
+      doc = record { 0 = doc };
+      author = user_of s;
+      kind = kind;
+      value = value;
+      arrival = moment_or_zero s;
+      text = text;
+    }) count in
     record {
       fine = none;
       reply_is = ap (λ note. NoteAdded note.num) same ∙ accepted.reply_is;

@@ -22,7 +22,7 @@ or-middle false false c = refl
 pub holds-in : (a b : List (List ℕ)) (u v : List ℕ) → has_text (a ++ u ∷ b) v ≡ (bytes_eq v u || has_text (a ++ b) v)
 holds-in a b u v =
     list_any-append (λ other. bytes_eq v other) a (u ∷ b) ∙ or-middle (has_text a v) (bytes_eq v u) (has_text b v)
-      ∙ ap (λ x. bytes_eq v u || x) (sym (list_any-append (λ other. bytes_eq v other) a b))
+    ∙ ap (λ x. bytes_eq v u || x) (sym (list_any-append (λ other. bytes_eq v other) a b))
 
 same-both : (x y : List ℕ) → bytes_eq x y ≡ bytes_eq y x
 same-both x y = go (bytes_eq x y) refl (bytes_eq y x) refl where
@@ -43,11 +43,11 @@ either-first false false d = refl
 different-step : (x u : List ℕ) (a b : List (List ℕ))
     → different (a ++ u ∷ b) ≡ (if has_text (a ++ b) u then different (a ++ b) else different (a ++ b) + 1) → (s : Bool) → bytes_eq x u ≡ s
     → (if bytes_eq x u || has_text (a ++ b) x then different (a ++ u ∷ b) else different (a ++ u ∷ b) + 1)
-        ≡ (if bytes_eq u x || has_text (a ++ b) u then (if has_text (a ++ b) x then different (a ++ b) else different (a ++ b) + 1)
-          else (if has_text (a ++ b) x then different (a ++ b) else different (a ++ b) + 1) + 1)
+    ≡ (if bytes_eq u x || has_text (a ++ b) u then (if has_text (a ++ b) x then different (a ++ b) else different (a ++ b) + 1)
+    else (if has_text (a ++ b) x then different (a ++ b) else different (a ++ b) + 1) + 1)
 different-step x u a b rest true e =
     rw (e, same-both u x ∙ e, rest)
-      (ap (λ z. if has_text (a ++ b) z then different (a ++ b) else different (a ++ b) + 1) (sym (same-text x u e)))
+    (ap (λ z. if has_text (a ++ b) z then different (a ++ b) else different (a ++ b) + 1) (sym (same-text x u e)))
 different-step x u a b rest false e =
     rw (e, same-both u x ∙ e, rest) (either-first (has_text (a ++ b) x) (has_text (a ++ b) u) (different (a ++ b)))
 
@@ -72,11 +72,11 @@ holds-with : (owners : List (List ℕ)) (u v : List ℕ) (h : Bool) → has_text
     → has_text (if h then owners else owners ++ u ∷ []) v ≡ (bytes_eq v u || has_text owners v)
 holds-with owners u v false e = list_any-append (λ other. bytes_eq v other) owners (u ∷ [])
     ∙ swapped (has_text owners v) (bytes_eq v u) where
-  swapped : (a b : Bool) → (a || (b || false)) ≡ (b || a)
-  swapped true true = refl
-  swapped true false = refl
-  swapped false true = refl
-  swapped false false = refl
+      swapped : (a b : Bool) → (a || (b || false)) ≡ (b || a)
+      swapped true true = refl
+      swapped true false = refl
+      swapped false true = refl
+      swapped false false = refl
 holds-with owners u v true e = go (bytes_eq v u) refl where
   go : (s : Bool) → bytes_eq v u ≡ s → has_text owners v ≡ (bytes_eq v u || has_text owners v)
   go true f = rw f (subst (λ z. has_text owners z ≡ true) (sym (same-text v u f)) e)

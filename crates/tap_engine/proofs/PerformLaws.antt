@@ -67,8 +67,12 @@ unspared (DigestOf name ordinal) s t change none is = ap is_some (first-none 3 (
 -- a command at whose rows the keeper is out of memory
 pub memory-gives : (t : Tables) (s : Session) (c : Command) (reply : Reply) (change : Change) (s' : Session)
     → Answers t s c reply (Some change) s' → GivesUp t s c (No Memory) t s
-memory-gives t s c reply change s' answers = record { reply_is = refl; tables_are = refl; session_is = refl;
-      not_spared = unspared c s t change answers.fine (sym answers.change_is) }
+memory-gives t s c reply change s' answers = record {
+  reply_is = refl;
+  tables_are = refl;
+  session_is = refl;
+  not_spared = unspared c s t change answers.fine (sym answers.change_is);
+}
 
 pub memory-step : (t : Tables) (s : Session) (c : Command) (reply : Reply) (change : Change) (s' : Session)
     → Answers t s c reply (Some change) s' → StoryStep t s c (No Memory) t s
@@ -78,8 +82,11 @@ memory-step t s c reply change s' answers = inr (memory-gives t s c reply change
 pub rows-fit : (t : Tables) (s : Session) (c : Command) (reply : Reply) (change : Change) (s' : Session) → IsSoundFor c t s
     → Answers t s c reply (Some change) s' → AddsRowsTo change t
 rows-fit t s c reply change s' sound answers =
-    record { formed = sound.formed; fits = accepted_fits t s c change sound (sym answers.change_is);
-        some = change-rows c s t change (sym answers.change_is) }
+    record {
+      formed = sound.formed;
+      fits = accepted_fits t s c change sound (sym answers.change_is);
+      some = change-rows c s t change (sym answers.change_is);
+    }
 
 -- the tables with the rows of a command
 pub rows-next : (t : Tables) (s : Session) (c : Command) (reply : Reply) (change : Change) (s' : Session)
@@ -105,7 +112,7 @@ fault-gives C.Memory t e back e' c result is to same gives = subst
     (λ r. IfOk r (λ reply. first_text reply ≡ codes "no 18" → GivesUp t e.session c reply (next_tables c reply e.session t) e'.session))
     (sym is) (λ _. subst (λ s. GivesUp t e.session c (No Memory) t s) (sym (ap (λ k. k.session) to ∙ same)) gives)
 fault-gives C.Failed t e back e' c result is to same gives = subst (λ r. IfOk r
-      (λ reply. first_text reply ≡ codes "no 18" → GivesUp t e.session c reply (next_tables c reply e.session t) e'.session)) (sym is) tt
+    (λ reply. first_text reply ≡ codes "no 18" → GivesUp t e.session c reply (next_tables c reply e.session t) e'.session)) (sym is) tt
 
 -- a proper command that was prepared isn't answered by `no 18`
 pub prepared-apart : (t : Tables) (s : Session) (c : Command) (reply : Reply) (change : Option Change) (s' : Session) → is_proper c ≡ true
@@ -152,9 +159,18 @@ taken-there undo new old change rows is takes = subst (λ change. OnSome change 
 
 -- the hits have no part in what an engine represents
 represents-hits : (e : Engine) (t : Tables) (h : HitsWithRoom) → Represents e t → Represents (record e { hits = h }) t
-represents-hits e t h represents = record { rows = represents.rows; queries = represents.queries; filters = represents.filters;
-      votes = represents.votes; run_count = represents.run_count; pick_count = represents.pick_count; bytes = represents.bytes;
-      users = represents.users; owners = represents.owners; greatest = represents.greatest }
+represents-hits e t h represents = record {
+  rows = represents.rows;
+  queries = represents.queries;
+  filters = represents.filters;
+  votes = represents.votes;
+  run_count = represents.run_count;
+  pick_count = represents.pick_count;
+  bytes = represents.bytes;
+  users = represents.users;
+  owners = represents.owners;
+  greatest = represents.greatest;
+}
 
 -- what the engine represents if the keeper didn't commit
 pub fault-represents : (fault : CommitFault) (t : Tables) (e back e' : Engine) (c : Command) (result : Result Reply EngineFault)
@@ -162,6 +178,6 @@ pub fault-represents : (fault : CommitFault) (t : Tables) (e back e' : Engine) (
     → IfOk result (λ reply. Represents e' (next_tables c reply e.session t))
 fault-represents C.Memory t e back e' c result is to still represents =
     subst (λ r. IfOk r (λ reply. Represents e' (next_tables c reply e.session t))) (sym is)
-      (subst (λ k. Represents k t) (sym (to ∙ still.same)) (represents-hits e t back.hits represents))
+    (subst (λ k. Represents k t) (sym (to ∙ still.same)) (represents-hits e t back.hits represents))
 fault-represents C.Failed t e back e' c result is to still represents =
     subst (λ r. IfOk r (λ reply. Represents e' (next_tables c reply e.session t))) (sym is) tt

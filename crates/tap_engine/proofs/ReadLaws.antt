@@ -103,7 +103,7 @@ answers-wake e t name moment represents sound-for none is = go (query_named (use
 
   accepted : Answers t e.session (Wake name)
       (show_wake (query_named (user_of e.session) name t) name e.session t).reply (show_wake (query_named (user_of e.session) name t) name
-        e.session t).change (show_wake (query_named (user_of e.session) name t) name e.session t).session
+      e.session t).change (show_wake (query_named (user_of e.session) name t) name e.session t).session
   accepted = answers-accepted t e.session (Wake name) (sym (wake-verdict e t name represents) ∙ none)
 
   kept : Some moment ≡ cached_wake e (option_map (cached_query t) (query_named (user_of e.session) name t))
@@ -115,11 +115,11 @@ answers-wake e t name moment represents sound-for none is = go (query_named (use
   go (Some q) some =
       let now = moment_or_zero e.session in
       let same : moment ≡ next_wake now (hits_since (cached_query t q) e.index (pos LAST_MOMENT)) =
-          moment-same moment _ (kept ∙ ap (λ o. cached_wake e (option_map (cached_query t) o)) some) in
+      moment-same moment _ (kept ∙ ap (λ o. cached_wake e (option_map (cached_query t) o)) some) in
       let whole : moment ≡ wake_moment q t now =
       same ∙ ap (λ rows. next_wake now (hits_since (cached_query t q) rows (pos LAST_MOMENT))) represents.rows
       ∙ wakes-are-windows t e.session q now sound (find-in (is_query_of (user_of e.session) name) t.queries q some)
-          (wake-now e t name none sound) in
+      (wake-now e t name none sound) in
       record {
         fine = accepted.fine;
         reply_is = ap (Woken name) whole ∙ sym (ap (λ o. (show_wake o name e.session t).reply) some) ∙ accepted.reply_is;
@@ -143,7 +143,7 @@ numbered-formed t is = record {
 pub answers-scores : (e : Engine) (t : Tables) (kind : List ℕ) (rows : List Score) → Represents e t → is_well_formed t ≡ true
     → bad_name kind ≡ None
     → ((tables : Tables) → AreNumbered tables → e.votes ≡ tally tables.notes → rows ≡ scores_of kind tables)
-        → Answers t e.session (ScoresOf kind) (Scored kind rows) None e.session
+    → Answers t e.session (ScoresOf kind) (Scored kind rows) None e.session
 answers-scores e t kind rows represents rows-formed none is =
     let accepted = answers-accepted t e.session (ScoresOf kind) (one (bad_name kind) ∙ none) in
     record {
@@ -164,7 +164,7 @@ digest-verdict e t name ordinal represents =
     let o = query_named (user_of e.session) name t in
     ap (λ look. option_or look (no_run ordinal (cached_runs (cached_named e name)))) (box-verdict e t name represents)
     ∙ ap (λ runs. option_or (first_refusal (no_user e.session ∷ bad_name name ∷ missing NoQuery o ∷ [])) (no_run ordinal runs))
-        (ap cached_runs (named-is e t name represents) ∙ runs-same t o)
+    (ap cached_runs (named-is e t name represents) ∙ runs-same t o)
     ∙ three-one (no_user e.session) (bad_name name) (missing NoQuery o) (no_run ordinal (runs_found o t))
 
 pub digest-refuses : (e : Engine) (name : List ℕ) (ordinal : ℕ) (refusal : Refusal)
@@ -172,8 +172,8 @@ pub digest-refuses : (e : Engine) (name : List ℕ) (ordinal : ℕ) (refusal : R
     → Refuses refusal (DigestOf name ordinal) e.session t
 digest-refuses e name ordinal refusal by t represents =
     refused-after _ _ refusal
-      (subst (λ x. RefusedAfter x (verdict (DigestOf name ordinal) e.session t) refusal) (box-verdict e t name represents)
-        (subst (λ v. RefusedAfter (look_refusal e name) v refusal) (digest-verdict e t name ordinal represents) by))
+    (subst (λ x. RefusedAfter x (verdict (DigestOf name ordinal) e.session t) refusal) (box-verdict e t name represents)
+    (subst (λ v. RefusedAfter (look_refusal e name) v refusal) (digest-verdict e t name ordinal represents) by))
 
 some-lines : (x : List (List ℕ)) → Some x ≡ None → ⊥
 some-lines x e = cc
@@ -187,7 +187,7 @@ pub answers-digest : (e : Engine) (t : Tables) (name : List ℕ) (ordinal : ℕ)
     → Answers t e.session (DigestOf name ordinal) (Digest name ordinal lines) None e.session
 answers-digest e t name ordinal lines represents sound none is = go (query_named (user_of e.session) name t) refl where
   accepted : Answers t e.session (DigestOf name ordinal) (show_digest (query_named (user_of e.session) name t) name ordinal
-        e.session t).reply (show_digest (query_named (user_of e.session) name t) name ordinal e.session t).change
+      e.session t).reply (show_digest (query_named (user_of e.session) name t) name ordinal e.session t).change
       (show_digest (query_named (user_of e.session) name t) name ordinal e.session t).session
   accepted = answers-accepted t e.session (DigestOf name ordinal) (sym (digest-verdict e t name ordinal represents) ∙ none)
 
@@ -199,13 +199,13 @@ answers-digest e t name ordinal lines represents sound none is = go (query_named
   go None none' = absurd (some-lines lines (kept ∙ ap (λ o. cached_digest e name ordinal (option_map (cached_query t) o)) none'))
   go (Some q) some =
       let text : List Doc → List Entry
-          → List (List ℕ) = λ docs entries. digest_lines name ordinal (digested docs (entries_in_run ordinal entries)) in
+      → List (List ℕ) = λ docs entries. digest_lines name ordinal (digested docs (entries_in_run ordinal entries)) in
       let same : lines ≡ text e.index.docs (delivered q.num.0 t) =
-          lines-same lines _ (kept ∙ ap (λ o. cached_digest e name ordinal (option_map (cached_query t) o)) some) in
+      lines-same lines _ (kept ∙ ap (λ o. cached_digest e name ordinal (option_map (cached_query t) o)) some) in
       let box = box-is query_truth start_of truth-of-second t q t.queries (find-in (is_query_of (user_of e.session) name) t.queries q some)
-          (sound.kept refl).each in
+      (sound.kept refl).each in
       let whole : lines ≡ text t.docs (box_of_query q t) = same ∙ ap (λ docs. text docs (delivered q.num.0 t)) (docs-are represents)
-          ∙ ap (text t.docs) box.box in
+      ∙ ap (text t.docs) box.box in
       record {
         fine = accepted.fine;
         reply_is = ap (Digest name ordinal) whole ∙ sym (ap (λ o. (show_digest o name ordinal e.session t).reply) some) ∙ accepted.reply_is;

@@ -61,7 +61,7 @@ found-at p num runs (x ∷ queries) kept from e = go (p x) refl (found-at p (suc
         few = subst (λ k. k.runs ≤ runs) same from.1;
         covered = subst (λ k. IsMoment k.covered) same from.2;
         at = λ i d at. elim i as (λ i. kept.row.num.0 ≡ num + i
-              → slice_index_or (x ∷ queries) i d ≡ kept) [ zero ↦ λ at. same | suc i ↦ λ at. absurd (omega (arith, is, at)) ] at;
+            → slice_index_or (x ∷ queries) i d ≡ kept) [ zero ↦ λ at. same | suc i ↦ λ at. absurd (omega (arith, is, at)) ] at;
       }
 
   later : KeptAt (suc num) runs queries kept → KeptAt num runs (x ∷ queries) kept
@@ -70,8 +70,11 @@ found-at p num runs (x ∷ queries) kept from e = go (p x) refl (found-at p (suc
     high = omega (arith, rest.high);
     few = rest.few;
     covered = rest.covered;
-    at = λ i d at. elim i as (λ i. kept.row.num.0 ≡ num + i → slice_index_or (x ∷ queries) i d ≡ kept) [ zero ↦ λ at.
-          absurd (omega (arith, rest.low, at)) | suc i ↦ λ at. rest.at i d (omega (arith, at)) ] at;
+    at = λ i d at. elim i as (λ i. kept.row.num.0 ≡ num + i → slice_index_or (x ∷ queries) i d ≡ kept) [
+      | zero ↦ λ at.
+          absurd (omega (arith, rest.low, at))
+      | suc i ↦ λ at. rest.at i d (omega (arith, at))
+    ] at;
   }
 
   go : (b : Bool) → p x ≡ b → (find p queries ≡ Some kept → KeptAt (suc num) runs queries kept) → KeptAt num runs (x ∷ queries) kept
@@ -139,7 +142,7 @@ same-query kept m entries =
 
 pub run-back : (i : ℕ) (queries : List CachedQuery) (m : ℤ) (entries : List Entry) (d : CachedQuery)
     → without_run i (slice_index_or queries i d).covered (slice_index_or queries i d).runs (length (slice_index_or queries i d).entries)
-        (slice_set queries i (after_run m entries (slice_index_or queries i d))) ≡ queries
+    (slice_set queries i (after_run m entries (slice_index_or queries i d))) ≡ queries
 run-back i [] m entries d = refl
 run-back zero (kept ∷ queries) m entries d = ap (λ k. k ∷ queries) (same-query kept m entries)
 run-back (suc i) (kept ∷ queries) m entries d = ap (λ l. kept ∷ l) (run-back i queries m entries d)
@@ -152,13 +155,17 @@ length-set (suc i) (kept ∷ queries) x = ap suc (length-set i queries x)
 -- the engine before a run
 pub undo-run : (e e' : Engine) (h : HitsWithRoom) (i : ℕ) (m : ℤ) (entries : List Entry) (runs picks : ℕ) (d : CachedQuery)
     → i < length e.queries → e.hits.room ≤ h.room
-    → e' ≡ record e { hits = h; queries = slice_set e.queries i (after_run m entries (slice_index_or e.queries i d)); run_count = runs;
-          pick_count = picks } → UndoRestores (undo_run e i (slice_index_or e.queries i d)) e' e
+    → e' ≡ record e {
+      hits = h;
+      queries = slice_set e.queries i (after_run m entries (slice_index_or e.queries i d));
+      run_count = runs;
+      pick_count = picks;
+    } → UndoRestores (undo_run e i (slice_index_or e.queries i d)) e' e
 undo-run e e' h i m entries runs picks d lt room is =
     subst (λ e'. UndoRestores (undo_run e i (slice_index_or e.queries i d)) e' e) (sym is) (record {
-  there = subst (λ n. i < n) (sym (length-set i e.queries (after_run m entries (slice_index_or e.queries i d)))) lt;
-  before_is = record { same = ap (λ l. record e { hits = h; queries = l }) (run-back i e.queries m entries d); room = room };
-})
+      there = subst (λ n. i < n) (sym (length-set i e.queries (after_run m entries (slice_index_or e.queries i d)))) lt;
+      before_is = record { same = ap (λ l. record e { hits = h; queries = l }) (run-back i e.queries m entries d); room = room };
+    })
 
 -- the engine with more documents, which arrive at the session's moment
 each-from : (num : ℕ) (moment : ℤ) (texts : List (List ℕ)) → Each (λ doc. doc.arrival ≤ℤ moment) (docs_from num moment texts)
@@ -189,11 +196,11 @@ by-rows f e rows there each = go e.session.moment refl where
 pub ready-docs : (e : Engine) (h : HitsWithRoom) (texts : List (List ℕ)) (bytes : ℕ) → IsReady e → (e.session.moment ≡ None → ⊥)
     → length (e.index.docs ++ docs_from (length e.index.docs + 1) (moment_or_zero e.session) texts) ≤ h.room
     → IsReady (record e
-          { index = after e.index (Docs (docs_from (length e.index.docs + 1) (moment_or_zero e.session) texts)); hits = h; bytes = bytes })
+    { index = after e.index (Docs (docs_from (length e.index.docs + 1) (moment_or_zero e.session) texts)); hits = h; bytes = bytes })
 ready-docs e h texts bytes ready there room = record {
   docs = by-rows doc_arrival e (e.index.docs ++ docs_from (length e.index.docs + 1) (moment_or_zero e.session) texts) there
       (each-both (λ doc. doc.arrival ≤ℤ moment_or_zero e.session) e.index.docs _ (rows-by doc_arrival e e.index.docs ready.docs there)
-        (each-from (length e.index.docs + 1) (moment_or_zero e.session) texts));
+      (each-from (length e.index.docs + 1) (moment_or_zero e.session) texts));
   notes = ready.notes;
   queries = ready.queries;
   moment = ready.moment;
@@ -207,7 +214,7 @@ pub ready-note : (e : Engine) (note : Note) (votes : List Vote) (bytes : ℕ) �
 ready-note e note votes bytes ready at there = record {
   docs = ready.docs;
   notes = by-rows note_arrival e (e.index.notes ++ note ∷ []) there (each-both (λ note. note.arrival ≤ℤ moment_or_zero e.session)
-        e.index.notes (note ∷ []) (rows-by note_arrival e e.index.notes ready.notes there) (omega (arith, ints, at), tt));
+      e.index.notes (note ∷ []) (rows-by note_arrival e e.index.notes ready.notes there) (omega (arith, ints, at), tt));
   queries = ready.queries;
   moment = ready.moment;
   room = ready.room;
@@ -256,8 +263,13 @@ index-moment e ready there = let moment = moment_or_zero-moment e ready there in
 
 -- an engine that is unchanged but for its hits stays ready
 pub ready-still : (e e' : Engine) → IsReady e → IsUnchangedButHits e' e → IsReady e'
-ready-still e e' ready still = subst IsReady (sym still.same) (record { docs = ready.docs; notes = ready.notes; queries = ready.queries;
-        moment = ready.moment; room = omega (arith, ready.room, still.room) })
+ready-still e e' ready still = subst IsReady (sym still.same) (record {
+  docs = ready.docs;
+  notes = ready.notes;
+  queries = ready.queries;
+  moment = ready.moment;
+  room = omega (arith, ready.room, still.room);
+})
 
 pub some-moment : (moment : Option ℤ) (m : ℤ) → moment ≡ Some m → moment ≡ None → ⊥
 some-moment moment m is none = no-moment m (sym is ∙ none) where

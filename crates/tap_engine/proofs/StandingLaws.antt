@@ -23,19 +23,25 @@ new-is : (t : Tables) (row : QueryRow) → is_well_formed t ≡ true → row.num
 new-is t row formed num =
     let rows = placed t formed in
     let owned = each-map (λ run. (1 ≤ run.query.0) × (run.query.0 ≤ length t.queries)) (λ run. run.query.0 ≤ length t.queries)
-        t.runs (λ run within. within.1) rows.owned in
-    rw (runs-none row.num.0 t.runs (each-map (λ run. run.query.0 ≤ length t.queries) (λ run. run.query.0 < row.num.0) t.runs (λ run le.
-            omega (arith, le, num)) owned), no-picks row.num.0 (length t.queries) t.runs t.picks (omega (arith, num)) owned rows.picks) refl
+    t.runs (λ run within. within.1) rows.owned in
+    rw (
+      runs-none row.num.0 t.runs (each-map (λ run. run.query.0 ≤ length t.queries) (λ run. run.query.0 < row.num.0) t.runs (λ run le.
+          omega (arith, le, num)) owned),
+      no-picks row.num.0 (length t.queries) t.runs t.picks (omega (arith, num)) owned rows.picks,
+    ) refl
 
 -- the engine with one more query
 pub represents-query : (e : Engine) (t : Tables) (row : QueryRow) → Represents e t → is_well_formed t ≡ true
     → row.num.0 ≡ length t.queries + 1 → (e.session.moment ≡ None → ⊥)
-    → Represents (record e { queries = e.queries ++ never_run row ∷ []; owners = with_owner e.owners row.owner;
-            bytes = e.bytes + length row.source }) (after t (OneQuery row))
+    → Represents (record e {
+      queries = e.queries ++ never_run row ∷ [];
+      owners = with_owner e.owners row.owner;
+      bytes = e.bytes + length row.source;
+    }) (after t (OneQuery row))
 represents-query e t row represents formed num there = record {
   rows = represents.rows;
   queries = rw represents.queries (ap (λ k. map (cached_query t) t.queries ++ k ∷ []) (sym (new-is t row formed num))
-        ∙ sym (map-append (cached_query t) t.queries (row ∷ [])));
+      ∙ sym (map-append (cached_query t) t.queries (row ∷ [])));
   run_count = represents.run_count;
   pick_count = represents.pick_count;
   bytes = more (sum_by (λ doc. length doc.text) t.docs) (sum_by (λ note. length note.text) t.notes)

@@ -50,12 +50,12 @@ new-holds held all (x ∷ xs) is =
     let none : all ++ [] ≡ all = append-nil all in
     let count : length held ≡ different (all ++ []) = is.count ∙ ap different (sym none) in
     let same : (text : List ℕ)
-        → has_text held text ≡ has_text (all ++ []) text = λ text. is.same text ∙ ap (λ l. has_text l text) (sym none) in
+    → has_text held text ≡ has_text (all ++ []) text = λ text. is.same text ∙ ap (λ l. has_text l text) (sym none) in
     let one : HasAllOwners (with_owner held x) (all ++ x ∷ []) =
-        record { count = users-more held all [] x count (same x); same = λ text. owners-more held all [] x text same } in
+    record { count = users-more held all [] x count (same x); same = λ text. owners-more held all [] x text same } in
     let rest = new-holds (with_owner held x) (all ++ x ∷ []) xs one in
     subst (λ l. HasAllOwners l (all ++ x ∷ xs)) (sym (with-more held xs x))
-      (subst (λ l. HasAllOwners (with_new (with_owner held x) xs) l) (append_assoc all (x ∷ []) xs) rest)
+    (subst (λ l. HasAllOwners (with_new (with_owner held x) xs) l) (append_assoc all (x ∷ []) xs) rest)
 
 new-all : (xs : List (List ℕ)) → HasAllOwners (with_new [] xs) xs
 new-all xs = new-holds [] [] xs (record { count = refl; same = λ text. refl })
@@ -91,8 +91,13 @@ represents-start e t is = record {
 kept-from : (t : Tables) (k : ℕ) (queries : List QueryRow) → QueriesFrom k queries → Each (λ query. IsMoment query.arrival) queries
     → Each (λ run. IsMoment run.moment) t.runs → CachedFrom k (length t.runs) (map (cached_query t) queries)
 kept-from t k [] from moments times = tt
-kept-from t k (query ∷ queries) from moments times = (from.0, runs-few query.num.0 t.runs, covered-each IsMoment (start_of query)
-      query.num.0 t.runs (start-moment query moments.0) times, kept-from t (suc k) queries from.1 moments.1 times)
+kept-from t k (query ∷ queries) from moments times = (
+  from.0,
+  runs-few query.num.0 t.runs,
+  covered-each IsMoment (start_of query)
+      query.num.0 t.runs (start-moment query moments.0) times,
+  kept-from t (suc k) queries from.1 moments.1 times,
+)
 
 -- no document arrived after the greatest moment
 later-self : (m : ℤ) (known : Option ℤ) → m ≤ℤ later_of m known
@@ -115,8 +120,10 @@ no-row-by f (Some m) = tt
 
 by-greatest : {A : Type 0} (f : A → ℤ) (rows : List A) (more : List ℤ) → RowsBy f (greatest_of (map f rows ++ more)) rows
 by-greatest f [] more = no-row-by f (greatest_of more)
-by-greatest f (row ∷ rows) more = (later-self (f row) (greatest_of (map f rows ++ more)),
-      by-later f (f row) (greatest_of (map f rows ++ more)) rows (by-greatest f rows more))
+by-greatest f (row ∷ rows) more = (
+  later-self (f row) (greatest_of (map f rows ++ more)),
+  by-later f (f row) (greatest_of (map f rows ++ more)) rows (by-greatest f rows more),
+)
 
 by-before : {A : Type 0} (f : A → ℤ) (rows : List A) (before more : List ℤ) → RowsBy f (greatest_of (map f rows ++ more)) rows
     → RowsBy f (greatest_of (before ++ (map f rows ++ more))) rows
@@ -127,9 +134,9 @@ regrouped : (a b c d e : List ℤ) → a ++ (b ++ (c ++ (d ++ e))) ≡ a ++ b ++
 regrouped a b c d e = sym (append_assoc (a ++ b ++ c) d e ∙ append_assoc (a ++ b) c (d ++ e) ∙ append_assoc a b (c ++ (d ++ e)))
 
 all-moments : (t : Tables) → map doc_arrival t.docs ++ (map note_arrival t.notes
-      ++ (map (λ query. query.arrival) t.queries ++ (map (λ run. run.moment) t.runs ++ map (λ filter. filter.arrival) t.filters)))
+    ++ (map (λ query. query.arrival) t.queries ++ (map (λ run. run.moment) t.runs ++ map (λ filter. filter.arrival) t.filters)))
     ≡ map (λ doc. doc.arrival) t.docs ++ map (λ note. note.arrival) t.notes ++ map (λ query. query.arrival) t.queries
-      ++ map (λ run. run.moment) t.runs ++ map (λ filter. filter.arrival) t.filters
+    ++ map (λ run. run.moment) t.runs ++ map (λ filter. filter.arrival) t.filters
 all-moments t = regrouped (map doc_arrival t.docs) (map note_arrival t.notes) (map (λ query. query.arrival) t.queries)
     (map (λ run. run.moment) t.runs) (map (λ filter. filter.arrival) t.filters)
 
@@ -152,7 +159,7 @@ ready-start e t is formed = record {
   notes = by-started note_arrival e t
       e.index.notes is.session is.greatest (subst (λ rows. RowsBy note_arrival (greatest_moment t) rows.notes) (sym is.rows) (notes-by t));
   queries = subst (λ n. CachedFrom 1 n e.queries) (sym is.run_count) (subst (λ queries. CachedFrom 1 (length t.runs) queries)
-        (sym is.queries) (kept-from t 1 t.queries formed.queries formed.moments formed.times));
+      (sym is.queries) (kept-from t 1 t.queries formed.queries formed.moments formed.times));
   moment = subst (λ session. IsTime session.moment) (sym is.session) tt;
   room = is.room;
 }

@@ -62,16 +62,21 @@ refused-after early v refusal (inr memory) = inr (memory.0, ap is_some memory.1)
 -- documents are undone
 pub undo-docs : (e : Engine) (docs : List Doc) (h : HitsWithRoom) (bytes n : ℕ) → n ≡ length e.index.docs → e.hits.room ≤ h.room
     → UndoRestores (Docs n e.bytes) (record e { index = after e.index (RowDocs docs); hits = h; bytes = bytes }) e
-undo-docs e docs h bytes n is room = record { there = tt;
-      before_is = record { same = ap (λ n. record e { index = record e.index { docs = take n (e.index.docs ++ docs) }; hits = h }) is
-        ∙ ap (λ l. record e { index = record e.index { docs = l }; hits = h }) (take-append_seam e.index.docs docs); room = room } }
+undo-docs e docs h bytes n is room = record {
+  there = tt;
+  before_is = record {
+    same = ap (λ n. record e { index = record e.index { docs = take n (e.index.docs ++ docs) }; hits = h }) is
+        ∙ ap (λ l. record e { index = record e.index { docs = l }; hits = h }) (take-append_seam e.index.docs docs);
+    room = room;
+  };
+}
 
 -- a note is undone
 one-back : (notes : List Note) (note : Note) → take (length (notes ++ note ∷ []) - 1) (notes ++ note ∷ []) ≡ notes
 one-back notes note = ap (λ n. take (n - 1) (notes ++ note ∷ [])) (length-append notes (note ∷ []))
     ∙ ap (λ n. take n (notes ++ note ∷ [])) (less (length notes)) ∙ take-append_seam notes (note ∷ []) where
-  less : (n : ℕ) → n + 1 - 1 ≡ n
-  less n = omega arith
+      less : (n : ℕ) → n + 1 - 1 ≡ n
+      less n = omega arith
 
 some-note : (notes : List Note) (note : Note) → 0 < length (notes ++ note ∷ [])
 some-note [] note = omega arith
@@ -93,9 +98,9 @@ undo-note e note bytes vote votes can back = record {
 owner-back : (owners : List (List ℕ)) (owner : List ℕ) → take (length owners) (with_owner owners owner) ≡ owners
 owner-back owners owner =
     elim (has_text owners owner) as (λ b. take (length owners) (if b then owners else owners ++ owner ∷ []) ≡ owners) [
-  | true ↦ ap (take (length owners)) (sym (append-nil owners)) ∙ take-append_seam owners []
-  | false ↦ take-append_seam owners (owner ∷ [])
-]
+      | true ↦ ap (take (length owners)) (sym (append-nil owners)) ∙ take-append_seam owners []
+      | false ↦ take-append_seam owners (owner ∷ [])
+    ]
 
 -- a query is undone
 pub undo-query : (e : Engine) (queries : List CachedQuery) (owner : List ℕ) (bytes n m : ℕ) → n ≡ length e.queries → m ≡ length e.owners
@@ -106,7 +111,7 @@ undo-query e queries owner bytes n m is-n is-m = record {
     same = ap (λ n. record e { queries = take n (e.queries ++ queries); owners = take m (with_owner e.owners owner) }) is-n
         ∙ ap (λ l. record e { queries = l; owners = take m (with_owner e.owners owner) }) (take-append_seam e.queries queries)
         ∙ ap (λ m. record e { owners = take m (with_owner e.owners owner) }) is-m
-            ∙ ap (λ l. record e { owners = l }) (owner-back e.owners owner);
+        ∙ ap (λ l. record e { owners = l }) (owner-back e.owners owner);
     room = omega arith;
   };
 }
@@ -120,7 +125,7 @@ undo-filter e filters owner bytes n m is-n is-m = record {
     same = ap (λ n. record e { filters = take n (e.filters ++ filters); owners = take m (with_owner e.owners owner) }) is-n
         ∙ ap (λ l. record e { filters = l; owners = take m (with_owner e.owners owner) }) (take-append_seam e.filters filters)
         ∙ ap (λ m. record e { owners = take m (with_owner e.owners owner) }) is-m
-            ∙ ap (λ l. record e { owners = l }) (owner-back e.owners owner);
+        ∙ ap (λ l. record e { owners = l }) (owner-back e.owners owner);
     room = omega arith;
   };
 }

@@ -34,4 +34,4 @@ filter_refusal engine block =
     (option_or (no_user engine.session)
     (option_or (long_filter block)
     (option_or (first_refusal (filter_limits engine (user_of engine.session) (length (block_text block))))
-      (filter_fault (block_text block)))))
+    (filter_fault (block_text block)))))

@@ -57,13 +57,7 @@ fn refusal_of(fault: RuleFault) -> Refusal
 }
 
 // Reads the rules of a filter's text, or refuses its first fault.
-#[tactic(
-    auto,
-    unfolding(
-        tap_model::specs::Verdicts::filter_fault,
-        tap_model::specs::Filters::rules_in_text
-    )
-)]
+#[tactic(auto, unfolding(tap_model::specs::Verdicts::filter_fault, tap_model::specs::Filters::rules_in_text))]
 fn read_fine_rules(alloc: Global, source: &[u8]) -> Result<Rules, Refusal>
     requires { length source.now ≤ FILTER_LIMIT }
     ensures fine { OnOk result (filter_fault source.now ≡ None) }

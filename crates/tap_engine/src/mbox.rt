@@ -116,7 +116,7 @@ pub(crate) fn push_doc(
     requires arrives { MayArrive doc_arrival moment index.old.docs }
     requires short { length text.now ≤ MESSAGE_LIMIT }
     ensures ok { OnOk result (index.new ≡ after index.old
-          (RowChange.Docs (docs_from (length index.old.docs + 1) moment (text.now ∷ [])))) }
+        (RowChange.Docs (docs_from (length index.old.docs + 1) moment (text.now ∷ [])))) }
     ensures err { OnErr result (index.new ≡ index.old) }
 {
     let doc = Doc {
@@ -138,7 +138,7 @@ fn push_docs(
     requires arrives { MayArrive doc_arrival moment index.old.docs }
     requires short { AreShortTexts texts.now }
     ensures ok { OnOk result (index.new ≡ after index.old
-          (RowChange.Docs (docs_from (length index.old.docs + 1) moment texts.now))) }
+        (RowChange.Docs (docs_from (length index.old.docs + 1) moment texts.now))) }
     ensures err { OnErr result
         (record index.new { docs = take (length index.old.docs) index.new.docs } ≡ index.old) }
 {
@@ -160,7 +160,7 @@ fn add_all(
     requires arrives { MayArrive doc_arrival moment index.old.docs }
     requires short { AreShortTexts texts.now }
     ensures ok { OnOk result (index.new ≡ after index.old
-          (RowChange.Docs (docs_from (length index.old.docs + 1) moment texts.now))) }
+        (RowChange.Docs (docs_from (length index.old.docs + 1) moment texts.now))) }
     ensures err { OnErr result (index.new ≡ index.old) }
 {
     let len = index.docs() as usize;
@@ -183,7 +183,7 @@ impl Engine {
         ensures value { result_err result ≡ mbox_bounds self.now block.now texts.now }
         ensures short { OnOk result (are_short texts.now ≡ true) }
         ensures few { OnOk result (length self.now.index.docs + length texts.now
-              ≤ max (length self.now.index.docs) DOCUMENT_LIMIT) }
+            ≤ max (length self.now.index.docs) DOCUMENT_LIMIT) }
         ensures bytes { OnOk result (self.now.bytes + bytes_of_all texts.now < 2 ^ 64) }
     {
         refuse_long_message(texts)?;

@@ -120,13 +120,13 @@ impl Engine {
         // matters only to a command that looks at it.
         ensures step { OverSoundFor self.old command (λ t. IfOk result (λ reply.
             StoryStep t self.old.session command reply
-                (next_tables command reply self.old.session t) self.new.session)) }
+            (next_tables command reply self.old.session t) self.new.session)) }
         ensures represents { OverSoundFor self.old command (λ t. IfOk result (λ reply.
             Represents self.new (next_tables command reply self.old.session t))) }
         ensures memory { OverSoundFor self.old command (λ t. is_proper command ≡ true
             → IfOk result (λ reply. first_text reply ≡ codes "no 18" →
             GivesUp t self.old.session command reply (next_tables command reply self.old.session t)
-                self.new.session)) }
+            self.new.session)) }
         ensures short { IfOk result (λ reply. HasShortNames reply) }
         ensures ready { OnOk result (IsReady self.new) }
 
@@ -150,7 +150,7 @@ impl Engine {
             → IsDurable (P.tells keeper.old) (P.may_leave keeper.old) t →
             IfOk result (λ reply.
             IsDurable (P.tells keeper.new) (P.may_leave keeper.new)
-                (next_tables command reply self.old.session t))) }
+            (next_tables command reply self.old.session t))) }
         ensures crash { OverSoundFor self.old command (λ t. P.honest keeper.new
             → IsDurable (P.tells keeper.old) (P.may_leave keeper.old) t →
             OnErr result ((verdict command self.old.session t ≡ None)

@@ -157,7 +157,7 @@ impl Engine {
         ensures engine { OnOk result ((d : CachedQuery) → self.new ≡ record self.old {
           queries = slice_set self.old.queries (query.0 - 1)
               (after_run moment (map (entry_at ordinal) hits.now)
-                  (slice_index_or self.old.queries (query.0 - 1) d));
+              (slice_index_or self.old.queries (query.0 - 1) d));
           run_count = self.old.run_count + 1;
           pick_count = self.old.pick_count + length hits.now;
         }) }

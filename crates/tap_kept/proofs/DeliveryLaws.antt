@@ -47,18 +47,18 @@ there : (k num : ℕ) (rows : List QueryRow) → QueriesFrom k rows → k ≤ nu
 there k num [] from low high = absurd (omega (arith, low, high))
 there k num (row ∷ rows) from low high =
     go (k == num) refl (λ above. there (suc k) num rows from.1 above (within k num (length rows) high)) where
-  later : There rows num → There (row ∷ rows) num
-  later rest = record { q = rest.q; has = inr rest.has; at = rest.at }
+      later : There rows num → There (row ∷ rows) num
+      later rest = record { q = rest.q; has = inr rest.has; at = rest.at }
 
-  above : (k num : ℕ) → k ≤ num → (k ≡ num → ⊥) → suc k ≤ num
-  above k num low differs = omega (arith, low, differs)
+      above : (k num : ℕ) → k ≤ num → (k ≡ num → ⊥) → suc k ≤ num
+      above k num low differs = omega (arith, low, differs)
 
-  within : (k num n : ℕ) → num < k + suc n → num < suc k + n
-  within k num n high = omega (arith, high)
+      within : (k num n : ℕ) → num < k + suc n → num < suc k + n
+      within k num n high = omega (arith, high)
 
-  go : (b : Bool) → (k == num) ≡ b → (suc k ≤ num → There rows num) → There (row ∷ rows) num
-  go true e rest = record { q = row; has = inl refl; at = from.0 ∙ equal k num e }
-  go false e rest = later (rest (above k num low (unequal k num e)))
+      go : (b : Bool) → (k == num) ≡ b → (suc k ≤ num → There rows num) → There (row ∷ rows) num
+      go true e rest = record { q = row; has = inl refl; at = from.0 ∙ equal k num e }
+      go false e rest = later (rest (above k num low (unequal k num e)))
 
 one-there : (num : ℕ) (rows : List QueryRow) → QueriesFrom 1 rows → IsRowNumber num (length rows) → There rows num
 one-there num rows from one = there 1 num rows from one.low (omega (arith, one.high))
@@ -94,7 +94,7 @@ own-run : (before : List RunRow) (run : RunRow) (q : QueryRow) → run.query.0 �
 own-run before run q of =
     let moments = moments-new q.num.0 before run of in
     same-cached q (last_or (start_of q) (run_moments q.num.0 (before ++ run ∷ [])))
-      run.moment (length (run_moments q.num.0 (before ++ run ∷ []))) (length (run_moments q.num.0 before) + 1) [] []
+    run.moment (length (run_moments q.num.0 (before ++ run ∷ []))) (length (run_moments q.num.0 before) + 1) [] []
     (ap (last_or (start_of q)) moments ∙ last-more (start_of q) run.moment (run_moments q.num.0 before))
     (ap length moments ∙ length-append (run_moments q.num.0 before) (run.moment ∷ []))
     refl
@@ -104,8 +104,8 @@ other-run : (before : List RunRow) (run : RunRow) (other : QueryRow) → (run.qu
 other-run before run other differs =
     let moments = moments-other other.num.0 before run differs in
     same-cached other (last_or (start_of other) (run_moments other.num.0 (before ++ run ∷ [])))
-      (last_or (start_of other) (run_moments other.num.0 before)) (length (run_moments other.num.0 (before ++ run ∷ [])))
-      (length (run_moments other.num.0 before)) [] [] (ap (last_or (start_of other)) moments) (ap length moments) refl
+    (last_or (start_of other) (run_moments other.num.0 before)) (length (run_moments other.num.0 (before ++ run ∷ [])))
+    (length (run_moments other.num.0 before)) [] [] (ap (last_or (start_of other)) moments) (ap length moments) refl
 
 -- a run is added to its query
 pub run-joins : (rows : List QueryRow) (before : List RunRow) (run : RunRow) (queries new : List CachedQuery) → QueriesFrom 1 rows
@@ -132,10 +132,10 @@ own-pick runs before pick q run of is =
     let yes' = same-yes pick.query.0 q.num.0 of in
     let one : picks_of q.num.0 (pick ∷ []) ≡ pick ∷ [] = rw yes' refl in
     same-cached q (last_or (start_of q) (run_moments q.num.0 runs)) (last_or (start_of q) (run_moments q.num.0 runs))
-      (length (run_moments q.num.0 runs)) (length (run_moments q.num.0 runs)) (map (picked runs) (picks_of q.num.0 (before ++ pick ∷ [])))
-      (map (picked runs) (picks_of q.num.0 before) ++ entry-of pick run ∷ []) refl refl
+    (length (run_moments q.num.0 runs)) (length (run_moments q.num.0 runs)) (map (picked runs) (picks_of q.num.0 (before ++ pick ∷ [])))
+    (map (picked runs) (picks_of q.num.0 before) ++ entry-of pick run ∷ []) refl refl
     (ap (map (picked runs))
-      (filter-append (λ pick. pick.query.0 == q.num.0) before (pick ∷ []) ∙ ap (λ more. picks_of q.num.0 before ++ more) one)
+    (filter-append (λ pick. pick.query.0 == q.num.0) before (pick ∷ []) ∙ ap (λ more. picks_of q.num.0 before ++ more) one)
     ∙ map-append (picked runs) (picks_of q.num.0 before) (pick ∷ [])
     ∙ ap (λ n. map (picked runs) (picks_of q.num.0 before) ++ entry-of pick n ∷ []) (sym is))
 
@@ -143,10 +143,10 @@ other-pick : (runs : List RunRow) (before : List Pick) (pick : Pick) (other : Qu
     → cached_query (runs_alone runs (before ++ pick ∷ [])) other ≡ cached_query (runs_alone runs before) other
 other-pick runs before pick other differs =
     same-cached other (last_or (start_of other) (run_moments other.num.0 runs)) (last_or (start_of other) (run_moments other.num.0 runs))
-      (length (run_moments other.num.0 runs)) (length (run_moments other.num.0 runs))
-      (map (picked runs) (picks_of other.num.0 (before ++ pick ∷ []))) (map (picked runs) (picks_of other.num.0 before)) refl refl
-      (ap (map (picked runs))
-        (filter-none (λ pick. pick.query.0 == other.num.0) before (pick ∷ []) (same-not pick.query.0 other.num.0 differs, tt)))
+    (length (run_moments other.num.0 runs)) (length (run_moments other.num.0 runs))
+    (map (picked runs) (picks_of other.num.0 (before ++ pick ∷ []))) (map (picked runs) (picks_of other.num.0 before)) refl refl
+    (ap (map (picked runs))
+    (filter-none (λ pick. pick.query.0 == other.num.0) before (pick ∷ []) (same-not pick.query.0 other.num.0 differs, tt)))
 
 -- the ordinal that was noted for a run
 has-bounds : (k num query : ℕ) (runs : List RunRow) → RunsFrom k runs → HasRun num query runs → (k ≤ num) × (num < k + length runs)
@@ -181,8 +181,11 @@ run-within num query runs from has =
 pub pick-joins : (rows : List QueryRow) (runs : List RunRow) (before : List Pick) (pick : Pick) (queries new : List CachedQuery)
     (ordinals : List ℕ) → QueriesFrom 1 rows → RunsFrom 1 runs → IsRowNumber pick.query.0 (length rows) → HasRun pick.run pick.query.0 runs
     → queries ≡ map (cached_query (runs_alone runs before)) rows → ordinals ≡ map (ordinal_in runs) runs
-    → ((d : CachedQuery) → new ≡ slice_set queries (pick.query.0 - 1) (with_entry (record { doc = pick.doc; first = pick.first;
-                run = slice_index_or ordinals (pick.run - 1) 0 }) (slice_index_or queries (pick.query.0 - 1) d)))
+    → ((d : CachedQuery) → new ≡ slice_set queries (pick.query.0 - 1) (with_entry (record {
+      doc = pick.doc;
+      first = pick.first;
+      run = slice_index_or ordinals (pick.run - 1) 0;
+    }) (slice_index_or queries (pick.query.0 - 1) d)))
     → new ≡ map (cached_query (runs_alone runs (before ++ pick ∷ []))) rows
 pick-joins rows runs before pick queries new ordinals from numbered one has is noted set =
     let t = one-there pick.query.0 rows from one in
@@ -200,9 +203,9 @@ pick-joins rows runs before pick queries new ordinals from numbered one has is n
     ∙ ap (λ qs. slice_set qs (pick.query.0 - 1) (with_entry entry (slice_index_or qs (pick.query.0 - 1) d))) is
     ∙ ap (λ k. slice_set (map f rows) (pick.query.0 - 1) (with_entry entry k)) kept
     ∙ ap (slice_set (map f rows) (pick.query.0 - 1))
-        (sym (own-pick runs before pick t.q (slice_index_or ordinals (pick.run - 1) 0) (sym t.at) ordinal))
+    (sym (own-pick runs before pick t.q (slice_index_or ordinals (pick.run - 1) 0) (sym t.at) ordinal))
     ∙ placed-set f g 1 (pick.query.0 - 1) rows t.q from t.has at (λ other differs. other-pick runs before pick other (λ e.
-        differs (t.at ∙ e)))
+    differs (t.at ∙ e)))
 
 -- its document isn't among what its query has delivered
 pub pick-unseen :
@@ -213,9 +216,9 @@ pick-unseen rows runs before pick queries d from one is once =
     let t = one-there pick.query.0 rows from one in
     let kept : slice_index_or queries (pick.query.0 - 1) d ≡ cached_query (runs_alone runs before) t.q =
     ap (λ l. slice_index_or l (pick.query.0 - 1) d) is
-      ∙ kept-there (cached_query (runs_alone runs before)) pick.query.0 rows t.q d from t.has t.at one.low in
+    ∙ kept-there (cached_query (runs_alone runs before)) pick.query.0 rows t.q d from t.has t.at one.low in
     ap (λ (k : CachedQuery). is_in pick.doc.0 k.entries) kept ∙ ap (λ n. is_in pick.doc.0 (map (picked runs) (picks_of n before))) t.at
-        ∙ picked-in runs pick before ∙ once
+    ∙ picked-in runs pick before ∙ once
 
 -- runs that are there have their ordinals, whatever follows
 run-in : (pre rest : List RunRow) (run : RunRow) → HasRun run.num run.query.0 (pre ++ run ∷ rest)
@@ -224,8 +227,10 @@ run-in (x ∷ pre) rest run = inr (run-in pre rest run)
 
 all-have : (pre runs : List RunRow) → Each (λ run. HasRun run.num run.query.0 (pre ++ runs)) runs
 all-have pre [] = tt
-all-have pre (run ∷ runs) = (run-in pre runs run,
-      subst (λ all. Each (λ run. HasRun run.num run.query.0 all) runs) (append_assoc pre (run ∷ []) runs) (all-have (pre ++ run ∷ []) runs))
+all-have pre (run ∷ runs) = (
+  run-in pre runs run,
+  subst (λ all. Each (λ run. HasRun run.num run.query.0 all) runs) (append_assoc pre (run ∷ []) runs) (all-have (pre ++ run ∷ []) runs),
+)
 
 ordinals-stay : (before : List RunRow) (new : RunRow) (runs : List RunRow) → Each (λ run. HasRun run.num run.query.0 before) runs
     → map (ordinal_in before) runs ≡ map (ordinal_in (before ++ new ∷ [])) runs

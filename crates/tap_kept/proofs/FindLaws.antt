@@ -38,13 +38,13 @@ quiet-since X T kept low high moment is from to tells quiet =
     let unmarked = forms_have_no_other_mark c (start_of kept.row) query T (window_since kept moment) quiet in
     let same : (p : Probe) → runs.HasNoMark T (within kept.covered moment) p → runs.HasNoMark T (within low high) p =
     λ p none.
-      subst (λ z. runs.HasNoMark T (within z high) p) (sym from) (subst (λ z. runs.HasNoMark T (within kept.covered z) p) (sym to) none) in
+    subst (λ z. runs.HasNoMark T (within z high) p) (sym from) (subst (λ z. runs.HasNoMark T (within kept.covered z) p) (sym to) none) in
     tells (λ p has. same p (unmarked p (subst (In p) is has)))
 
 pub due-since : (X : List Probe) (T : Tables) (kept : CachedQuery) (low high moment : ℤ) (new old : ℕ) → X ≡ probes_of_query kept.row
     → low ≡ kept.covered → high ≡ moment
     → (((p : Probe) → In p X → runs.PathIsDocument p) → new ≤ old + total (runs.rows_due T (within low high)) X) → AreAlone kept.row
-        → new ≤ old + query_rows_due T (window_since kept moment) kept.row
+    → new ≤ old + query_rows_due T (window_since kept moment) kept.row
 due-since X T kept low high moment new old is from to tells are =
     subst (λ z. new ≤ old + total (runs.rows_due T (within z moment)) (probes_of_query kept.row)) from
     (subst (λ z. new ≤ old + total (runs.rows_due T (within low z)) (probes_of_query kept.row)) to
@@ -70,7 +70,7 @@ pub work-since : (q : RangedQuery) (T : Tables) (kept : CachedQuery) (low high m
 work-since q T kept low high moment new old is from to le =
     subst (λ z. new ≤ old + query_work T (within z moment) kept.row) from
     (subst (λ z. new ≤ old + query_work T (within low z) kept.row) to
-      (subst (λ n. new ≤ old + n) (work-is T (within low high) q (probes_of_query kept.row) is) le))
+    (subst (λ n. new ≤ old + n) (work-is T (within low high) q (probes_of_query kept.row) is) le))
 
 parts-count : (q : RangedQuery) (X : List Probe) → ranged_probes q ≡ X → length q.parts ≡ length X
 parts-count q X is = sym (length-map q.parts (λ part. probe_in q.pool part.probe)) ∙ ap length is
@@ -78,7 +78,7 @@ parts-count q X is = sym (length-map q.parts (λ part. probe_in q.pool part.prob
 -- the window up to the least mark is the same by the plan and by the query
 ahead-same : (q : RangedQuery) (T : Tables) (kept : CachedQuery) → ranged_probes q ≡ probes_of_query kept.row
     → wake_window kept.covered (hits_ahead kept.entries q T kept.covered) ≡ wake_window kept.covered
-        (meaning_without (was_seen kept.entries) (probes_of_query kept.row) T (within kept.covered (pos LAST_MOMENT)))
+    (meaning_without (was_seen kept.entries) (probes_of_query kept.row) T (within kept.covered (pos LAST_MOMENT)))
 ahead-same q T kept is =
     ap (λ X. wake_window kept.covered (meaning_without (was_seen kept.entries) X T (within kept.covered (pos LAST_MOMENT)))) is
 
@@ -86,29 +86,29 @@ ahead-same q T kept is =
 pub work-next : (q : RangedQuery) (T : Tables) (kept : CachedQuery) (last : ℤ) (new old : ℕ) → ranged_probes q ≡ probes_of_query kept.row
     → last ≡ kept.covered
     → new ≤ old + (length q.parts + runs.query_cost T (wake_window last (hits_ahead kept.entries q T last)) q)
-        → new ≤ old + work_ahead kept T
+    → new ≤ old + work_ahead kept T
 work-next q T kept last new old is from le =
     let at : new ≤ old + (length q.parts + runs.query_cost T (wake_window kept.covered (hits_ahead kept.entries q T kept.covered)) q) =
-        subst (λ z. new ≤ old + (length q.parts + runs.query_cost T (wake_window z (hits_ahead kept.entries q T z)) q)) from le in
+    subst (λ z. new ≤ old + (length q.parts + runs.query_cost T (wake_window z (hits_ahead kept.entries q T z)) q)) from le in
     subst (λ n. new ≤ old + n)
     (ap (λ n. n + runs.query_cost T (wake_window kept.covered (hits_ahead kept.entries q T kept.covered)) q)
-      (parts-count q (probes_of_query kept.row) is)
+    (parts-count q (probes_of_query kept.row) is)
     ∙ ap (λ w. length (probes_of_query kept.row) + runs.query_cost T w q) (ahead-same q T kept is)
     ∙ ap (λ n. length (probes_of_query kept.row) + n) (work-is T (wake_window kept.covered (meaning_without (was_seen kept.entries)
-              (probes_of_query kept.row) T (within kept.covered (pos LAST_MOMENT)))) q (probes_of_query kept.row) is))
+    (probes_of_query kept.row) T (within kept.covered (pos LAST_MOMENT)))) q (probes_of_query kept.row) is))
     at
 
 pub plain-next : (q : RangedQuery) (T : Tables) (kept : CachedQuery) (last : ℤ) (new old : ℕ) → ranged_probes q ≡ probes_of_query kept.row
     → last ≡ kept.covered
     → (((p : Probe) → In p (ranged_probes q) → IsPlain p)
-          → new ≤ old + marked_ahead T (wake_window last (hits_ahead kept.entries q T last)) (ranged_probes q)) → ArePlain kept.row
-        → new ≤ old + marks_ahead kept T
+    → new ≤ old + marked_ahead T (wake_window last (hits_ahead kept.entries q T last)) (ranged_probes q)) → ArePlain kept.row
+    → new ≤ old + marks_ahead kept T
 plain-next q T kept last new old is from tells are =
     let le : new ≤ old + marked_ahead T (wake_window kept.covered (hits_ahead kept.entries q T kept.covered)) (ranged_probes q) =
-        subst (λ z. new ≤ old + marked_ahead T (wake_window z (hits_ahead kept.entries q T z)) (ranged_probes q)) from
-        (tells (λ p has. are p (subst (In p) is has))) in
+    subst (λ z. new ≤ old + marked_ahead T (wake_window z (hits_ahead kept.entries q T z)) (ranged_probes q)) from
+    (tells (λ p has. are p (subst (In p) is has))) in
     subst (λ n. new ≤ old + n)
     (ap (λ w. marked_ahead T w (ranged_probes q)) (ahead-same q T kept is)
     ∙ ap (marked_ahead T (wake_window kept.covered
-            (meaning_without (was_seen kept.entries) (probes_of_query kept.row) T (within kept.covered (pos LAST_MOMENT))))) is)
+    (meaning_without (was_seen kept.entries) (probes_of_query kept.row) T (within kept.covered (pos LAST_MOMENT))))) is)
     le

@@ -59,13 +59,13 @@ put-new : (entries : List Entry) (a : Hit) (hits : List Hit) → is_in a.doc.0 e
 put-new entries a [] unseen apart new = (unseen, apart, tt)
 put-new entries a (b ∷ hits) unseen apart new =
     go (is_before a b) refl (put-new entries a hits unseen (λ h has. apart h (inr has)) new.2) where
-  away : (other : Hit) → (other ≡ a) ⊎ In other hits → other.doc.0 ≡ b.doc.0 → ⊥
-  away other (inl e) same = apart b (inl refl) (sym same ∙ ap (λ (h : Hit). h.doc.0) e)
-  away other (inr i) same = new.1 other i same
+      away : (other : Hit) → (other ≡ a) ⊎ In other hits → other.doc.0 ≡ b.doc.0 → ⊥
+      away other (inl e) same = apart b (inl refl) (sym same ∙ ap (λ (h : Hit). h.doc.0) e)
+      away other (inr i) same = new.1 other i same
 
-  go : (t : Bool) → is_before a b ≡ t → AreNew entries (put_in a hits) → AreNew entries (if t then a ∷ b ∷ hits else b ∷ put_in a hits)
-  go true is rest = (unseen, apart, new)
-  go false is rest = (new.0, (λ other has. away other (put-out a other hits has)), rest)
+      go : (t : Bool) → is_before a b ≡ t → AreNew entries (put_in a hits) → AreNew entries (if t then a ∷ b ∷ hits else b ∷ put_in a hits)
+      go true is rest = (unseen, apart, new)
+      go false is rest = (new.0, (λ other has. away other (put-out a other hits has)), rest)
 
 order-out : (h : Hit) (hits : List Hit) → In h (hits_in_order hits) → In h hits
 order-out h [] has = has
@@ -93,12 +93,13 @@ module _ (entries : List Entry) (seen : Doc → Bool) (unseen : (doc : Doc) → 
   hits-from n low (doc ∷ docs) arrived = go (seen doc) refl (second doc) refl (hits-from (suc n) doc.arrival docs arrived.2) where
     first : (m : ℤ) → is_in doc.num.0 entries ≡ false → AreFrom (suc n) (hits-in docs)
         → AreFrom n (record { doc = doc.num; first = m } ∷ hits-in docs)
-    first m new from =
-        ((new, (λ other has same. let le = from.1 other has in let at = arrived.1 in omega (arith, le, at, same)), from.0),
-            λ hit has. number hit has) where
-          number : (hit : Hit) → (hit ≡ record { doc = doc.num; first = m }) ⊎ In hit (hits-in docs) → n ≤ hit.doc.0
-          number hit (inl e) = let is : hit.doc.0 ≡ doc.num.0 = ap (λ (h : Hit). h.doc.0) e in let at = arrived.1 in omega (arith, is, at)
-          number hit (inr has) = let le = from.1 hit has in omega (arith, le)
+    first m new from = (
+      (new, (λ other has same. let le = from.1 other has in let at = arrived.1 in omega (arith, le, at, same)), from.0),
+      λ hit has. number hit has,
+    ) where
+      number : (hit : Hit) → (hit ≡ record { doc = doc.num; first = m }) ⊎ In hit (hits-in docs) → n ≤ hit.doc.0
+      number hit (inl e) = let is : hit.doc.0 ≡ doc.num.0 = ap (λ (h : Hit). h.doc.0) e in let at = arrived.1 in omega (arith, is, at)
+      number hit (inr has) = let le = from.1 hit has in omega (arith, le)
 
     go : (b : Bool) → seen doc ≡ b → (o : Option ℤ) → second doc ≡ o → AreFrom (suc n) (hits-in docs) → AreFrom n (hits-in (doc ∷ docs))
     go true is o at from = rw is (later n (hits-in docs) from)
@@ -118,7 +119,7 @@ once-from earlier [] i d once lt = absurd (omega (arith, lt))
 once-from earlier (pick ∷ picks) zero d once lt = subst (λ l. list_any (picks_same pick) l ≡ false) (sym (append-nil earlier)) once.0
 once-from earlier (pick ∷ picks) (suc i) d once lt =
     subst (λ l. list_any (picks_same (slice_index_or picks i d)) l ≡ false) (append_assoc earlier (pick ∷ []) (take i picks))
-      (once-from (earlier ++ pick ∷ []) picks i d once.1 (omega (arith, lt)))
+    (once-from (earlier ++ pick ∷ []) picks i d once.1 (omega (arith, lt)))
 
 pub once-at : (picks : List Pick) (i : ℕ) (d : Pick) → PicksAreDistinct [] picks → i < length picks
     → list_any (picks_same (slice_index_or picks i d)) (take i picks) ≡ false
@@ -136,7 +137,7 @@ picked-in runs pick (other ∷ picks) = go (other.query.0 == pick.query.0) refl 
       → is_in pick.doc.0 (map (picked runs) (picks_of pick.query.0 picks)) ≡ list_any (picks_same pick) picks
       → is_in pick.doc.0 (map (picked runs) (picks_of pick.query.0 (other ∷ picks))) ≡ list_any (picks_same pick) (other ∷ picks)
   go true is rest = rw is (ap (λ b. b || is_in pick.doc.0 (map (picked runs) (picks_of pick.query.0 picks)))
-        (same-numbers pick.doc.0 other.doc.0) ∙ ap (λ b. (other.doc.0 == pick.doc.0) || b) rest)
+      (same-numbers pick.doc.0 other.doc.0) ∙ ap (λ b. (other.doc.0 == pick.doc.0) || b) rest)
   go false is rest = rw is rest
 
 -- the hit at a place, and those that are left
@@ -160,7 +161,7 @@ back-more (suc n) (x ∷ xs) ys le = ap (λ l. x ∷ l) (back-more n xs ys (omeg
 pub one-added : (old now new : List Entry) (run i : ℕ) (hits : List Hit) (d : Hit) → i < length hits
     → new ≡ now ++ entry_at run (slice_index_or hits i d) ∷ []
     → old ++ map (entry_at run) hits ≡ now ++ map (entry_at run) (drop i hits) → take (length old) now ≡ old → length old ≤ length now
-        → AreNew now (drop i hits) → IsAdded old new run hits (drop (i + 1) hits)
+    → AreNew now (drop i hits) → IsAdded old new run hits (drop (i + 1) hits)
 one-added old now new run i hits d lt is all back more fresh =
     let hit = slice_index_or hits i d in
     let left = left-at i hits d lt in

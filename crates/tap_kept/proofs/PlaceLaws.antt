@@ -17,7 +17,7 @@ runs-few query [] = omega arith
 runs-few query (run ∷ runs) =
     let rest = runs-few query runs in
     elim (run.query.0 == query) as (λ b. length (map (λ run. run.moment) (if b then run ∷ runs_of query runs else runs_of query runs))
-        ≤ suc (length runs)) [ true ↦ omega (arith, rest) | false ↦ omega (arith, rest) ]
+    ≤ suc (length runs)) [ true ↦ omega (arith, rest) | false ↦ omega (arith, rest) ]
 
 -- a query in memory is at the place of its number
 pub placed : (f : QueryRow → CachedQuery) (k i : ℕ) (qs : List QueryRow) (q : QueryRow) (d : CachedQuery) → QueriesFrom k qs → In q qs
@@ -45,7 +45,7 @@ placed-set f g k zero (x ∷ qs) q from (inr h) at same =
     absurd (let bounds = query-bounds (suc k) qs q from.1 h in omega (arith, bounds.0, at))
 placed-set f g k (suc i) (x ∷ qs) q from (inr h) at same =
     rw (same x (λ e. absurd (omega (arith, e, from.0, at))))
-      (ap (λ rest. f x ∷ rest) (placed-set f g (suc k) i qs q from.1 h (omega (arith, at)) same))
+    (ap (λ rest. f x ∷ rest) (placed-set f g (suc k) i qs q from.1 h (omega (arith, at)) same))
 
 -- the run at a place is undone by writing the query there
 pub without-set : (i runs entries : ℕ) (covered : ℤ) (queries : List CachedQuery) (d : CachedQuery) → i < length queries

@@ -24,7 +24,9 @@ moments-each P query [] each = tt
 moments-each P query (run ∷ runs) each =
     let rest = moments-each P query runs each.1 in
     elim (run.query.0 == query) as (λ b. Each P (map (λ run. run.moment) (if b then run ∷ runs_of query runs else runs_of query runs))) [
-        true ↦ (each.0, rest) | false ↦ rest ]
+      | true ↦ (each.0, rest)
+      | false ↦ rest
+    ]
 
 last-each : (P : ℤ → Type 0) (low : ℤ) (ms : List ℤ) → P low → Each P ms → P (last_or low ms)
 last-each P low [] is each = is

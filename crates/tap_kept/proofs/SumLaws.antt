@@ -17,8 +17,8 @@ bytes-are moment bytes sums [] = none sums.bytes where
   none n = omega arith
 bytes-are moment bytes sums (row ∷ rows) = bytes-are moment bytes (added (moment row) (bytes row) sums) rows
     ∙ more sums.bytes (bytes row) (sum_by bytes rows) (sum_by bytes (row ∷ rows)) (sum_by-append bytes (row ∷ []) rows) where
-  more : (a b c d : ℕ) → d ≡ 0 + b + c → a + b + c ≡ a + d
-  more a b c d e = omega (arith, e)
+      more : (a b c d : ℕ) → d ≡ 0 + b + c → a + b + c ≡ a + d
+      more a b c d e = omega (arith, e)
 
 -- the greatest of a moment and some more
 abbrev joined : Option ℤ → Option ℤ → Option ℤ
@@ -99,11 +99,11 @@ greatest-in t =
     greatest-is (λ filter. filter.arrival) (λ filter. length filter.source) runs t.filters
     ∙ ap (λ o. joined o (greatest_of f)) (greatest-is (λ run. run.moment) (λ run. 0) queries t.runs)
     ∙ ap (λ o. joined (joined o (greatest_of r)) (greatest_of f))
-        (greatest-is (λ query. query.arrival) (λ query. length query.source) notes t.queries)
+    (greatest-is (λ query. query.arrival) (λ query. length query.source) notes t.queries)
     ∙ ap (λ o. joined (joined (joined o (greatest_of q)) (greatest_of r)) (greatest_of f))
-        (greatest-is (λ note. note.arrival) (λ note. length note.text) docs t.notes)
+    (greatest-is (λ note. note.arrival) (λ note. length note.text) docs t.notes)
     ∙ ap (λ o. joined (joined (joined (joined o (greatest_of n)) (greatest_of q)) (greatest_of r)) (greatest_of f))
-        (greatest-is (λ doc. doc.arrival) (λ doc. length doc.text) start t.docs)
+    (greatest-is (λ doc. doc.arrival) (λ doc. length doc.text) start t.docs)
     ∙ sym (both-greatest (d ++ n ++ q ++ r) f
     ∙ ap (λ o. joined o (greatest_of f)) (both-greatest (d ++ n ++ q) r
     ∙ ap (λ o. joined o (greatest_of r)) (both-greatest (d ++ n) q

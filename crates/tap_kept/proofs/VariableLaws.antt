@@ -105,19 +105,19 @@ within scope count False high fine = none-within 0 count refl
 within scope count (Or l r) high fine =
     let parts = none-parts (first_fault scope count l) (first_fault scope (variables_after count l) r) fine in
     both-within (exists_in (core scope count l)) (exists_in (core scope (variables_after count l) r)) count (variables_after count l)
-      (variables_after (variables_after count l) r)
+    (variables_after (variables_after count l) r)
     (within scope count l high parts.0) (within scope (variables_after count l) r (after-grows count l high).1 parts.1)
 within scope count (And l r) high fine =
     let parts = none-parts (first_fault scope count l) (first_fault scope (variables_after count l) r) fine in
     both-within (exists_in (core scope count l)) (exists_in (core scope (variables_after count l) r)) count (variables_after count l)
-      (variables_after (variables_after count l) r)
+    (variables_after (variables_after count l) r)
     (within scope count l high parts.0) (within scope (variables_after count l) r (after-grows count l high).1 parts.1)
 within scope count (Not x) high fine = within scope count x high fine
 within scope count (Exists name place table body) high fine =
     let inner = inner_scope scope count name place table in
     let parts = none-parts (binder_fault scope count name place) (first_fault inner (next_variable count) body) fine in
     one-within (exists_in (core inner (next_variable count) body)) count (next_variable count) (variables_after (next_variable count) body)
-      (up count (binder-fine scope count name place parts.0))
+    (up count (binder-fine scope count name place parts.0))
     (within inner (next_variable count) body (next-grows count high).1 parts.1)
 within scope count (Compare left op place right) high fine = none-within (exists_in (compare_core (sort_of scope left) scope left op right))
     count (compare-none (sort_of scope left) scope left op right)

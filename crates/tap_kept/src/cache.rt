@@ -98,13 +98,7 @@ pub fn cache_delivered(
 }
 
 // Caches a filter with the rules of its text, or reports its number if the text has a fault.
-#[tactic(
-    auto,
-    unfolding(
-        tap_model::specs::Verdicts::filter_fault,
-        tap_model::specs::Filters::rules_in_text
-    )
-)]
+#[tactic(auto, unfolding(tap_model::specs::Verdicts::filter_fault, tap_model::specs::Filters::rules_in_text))]
 fn cache_filter(alloc: Global, row: FilterRow) -> Result<CachedFilter, StartFault>
     ensures read { OnOk result (is_unread row ≡ false) }
     ensures kept { IfOk result (λ kept. kept ≡ row) }

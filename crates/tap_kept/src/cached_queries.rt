@@ -126,7 +126,7 @@ impl CachedQueries {
         requires runs { HoldsAt place (λ query. query.runs + 1 < 2 ^ 64) self.old }
         requires new { HoldsAt place (λ query. AreNew query.entries hits.now) self.old }
         ensures kept { OnOk result (ChangesAt place
-              (after_run moment (map (entry_at ordinal) hits.now)) self.old self.new) }
+            (after_run moment (map (entry_at ordinal) hits.now)) self.old self.new) }
         ensures err { OnErr result (self.new ≡ self.old) }
     {
         self.items[place].add_run(moment, ordinal, hits)

@@ -40,7 +40,7 @@ impl Model for PlannedQuery {
 
     ghost invariant = { λ kept. (kept.start ≡ start_of kept.row)
         × ((ranged_probes kept.plan.query ≡ probes_of_query kept.row)
-              × HasValidProbes kept.plan.query)
+        × HasValidProbes kept.plan.query)
         × ((condition kept.cond ≡ condition_by kept.row)
         × CanRewriteFrom (condition kept.cond) kept.start) };
 }

@@ -69,8 +69,14 @@ may-pass name limit count more shared =
 
 -- the rows of other tables, with the documents and notes of these
 abbrev pub twin : Tables → Tables → Tables
-twin tables other = record { docs = tables.docs; notes = tables.notes; queries = other.queries; runs = other.runs; picks = other.picks;
-      filters = other.filters }
+twin tables other = record {
+  docs = tables.docs;
+  notes = tables.notes;
+  queries = other.queries;
+  runs = other.runs;
+  picks = other.picks;
+  filters = other.filters;
+}
 
 both-may : (name : LimitName) (limit count count' more more' : ℕ) → is_shared (Limit name) ≡ true
     → May (limit_refusal name limit count more) × May (limit_refusal name limit count' more')
@@ -108,7 +114,7 @@ pub found-same : (user name : List ℕ) (t o : Tables) → AreTwins user t o
     → option_map (core_of t.runs) (query_named user name t) ≡ option_map (core_of o.runs) (query_named user name o)
 found-same user name t o twins =
     named-core user name t.runs t.queries ∙ ap (find (λ core. bytes_eq core.name name)) twins.queries
-      ∙ sym (named-core user name o.runs o.queries)
+    ∙ sym (named-core user name o.runs o.queries)
 
 -- how many runs the query of a core had
 abbrev core_runs : Option Core → ℕ
@@ -126,7 +132,7 @@ none-core t (Some q) = refl
 missing-same : (s : Session) (name : List ℕ) (t o : Tables) → AreTwins (user_of s) t o → no_query s name t ≡ no_query s name (twin t o)
 missing-same s name t o twins =
     sym (missing-core NoQuery t (query_named (user_of s) name t)) ∙ ap (missing NoQuery) (found-same (user_of s) name t o twins)
-      ∙ missing-core NoQuery o (query_named (user_of s) name o)
+    ∙ missing-core NoQuery o (query_named (user_of s) name o)
 
 runs-core : (t : Tables) (q : Option QueryRow) → runs_found q t ≡ core_runs (option_map (core_of t.runs) q)
 runs-core t None = refl
@@ -136,12 +142,12 @@ runs-same : (user name : List ℕ) (t o : Tables) → AreTwins user t o
     → runs_found (query_named user name t) t ≡ runs_found (query_named user name o) (twin t o)
 runs-same user name t o twins =
     runs-core t (query_named user name t) ∙ ap core_runs (found-same user name t o twins)
-      ∙ sym (runs-core (twin t o) (query_named user name o))
+    ∙ sym (runs-core (twin t o) (query_named user name o))
 
 taken-same : (s : Session) (name : List ℕ) (t o : Tables) → AreTwins (user_of s) t o → taken s name t ≡ taken s name (twin t o)
 taken-same s name t o twins =
     ap (λ b. refuse_unless b Taken) (sym (none-core t (query_named (user_of s) name t)) ∙ ap is_none (found-same (user_of s) name t o twins)
-        ∙ none-core o (query_named (user_of s) name o))
+    ∙ none-core o (query_named (user_of s) name o))
 
 count-same : (user : List ℕ) (t o : Tables) → AreTwins user t o → queries_of user t ≡ queries_of user o
 count-same user t o twins = sym (length-map (owned_queries user t) (core_of t.runs)) ∙ ap length twins.queries
@@ -174,22 +180,72 @@ checks-alike (Mbox block) user s t o m at
 checks-alike (AddNote doc kind value text) user s t o m at
     by twins = (inl refl, (inl refl, (inl refl, (inl refl, (inl refl, (inl refl, (inr (store-may t o (length text)), tt)))))))
 checks-alike (Define name source) user s t o m at by twins =
-    let own = own-twins user s t o by twins in
-    (inl refl, (inl refl, (inl refl, (inl (taken-same s name t o own), (inl refl, (inl (ap (λ n. limit_refusal Queries user_query_limit n 1)
-                (count-same (user_of s) t o own)), (inr (both-may AllQueries query_limit (length t.queries) (length o.queries) 1 1 refl),
-                (inr (users-may (user_of s) t o), (inr (store-may t o (length (stored_source source))), tt)))))))))
+    let own = own-twins user s t o by twins in (
+      inl refl,
+      (
+        inl refl,
+        (
+          inl refl,
+          (
+            inl (taken-same s name t o own),
+            (
+              inl refl,
+              (
+                inl (ap (λ n. limit_refusal Queries user_query_limit n 1)
+                    (count-same (user_of s) t o own)),
+                (
+                  inr (both-may AllQueries query_limit (length t.queries) (length o.queries) 1 1 refl),
+                  (inr (users-may (user_of s) t o), (inr (store-may t o (length (stored_source source))), tt)),
+                ),
+              ),
+            ),
+          ),
+        ),
+      ),
+    )
 checks-alike (Run name) user s t o m at by twins =
-    let own = own-twins user s t o by twins in
-    (inl refl, (inl refl, (inl refl,
-          (inl (missing-same s name t o own), (inr (both-may Runs run_limit (length t.runs) (length o.runs) 1 1 refl), (inr (both-may Picks
-                pick_limit (length t.picks) (length o.picks) (delivers s name t) (delivers s name (twin t o)) refl), tt))))))
+    let own = own-twins user s t o by twins in (
+      inl refl,
+      (
+        inl refl,
+        (
+          inl refl,
+          (
+            inl (missing-same s name t o own),
+            (
+              inr (both-may Runs run_limit (length t.runs) (length o.runs) 1 1 refl),
+              (
+                inr (both-may Picks
+                    pick_limit (length t.picks) (length o.picks) (delivers s name t) (delivers s name (twin t o)) refl),
+                tt,
+              ),
+            ),
+          ),
+        ),
+      ),
+    )
 checks-alike (BoxOf name) user s t o m at
     by twins = (inl refl, (inl refl, (inl (missing-same s name t o (own-twins user s t o by twins)), tt)))
 checks-alike (ListOf name) user s t o m at
     by twins = (inl refl, (inl refl, (inl (missing-same s name t o (own-twins user s t o by twins)), tt)))
 checks-alike (Filter block) user s t o m at
-    by twins = (inl refl, (inl refl, (inl refl, (inr (users-may (user_of s) t o), (inr (both-may Filters filter_limit (length t.filters)
-              (length o.filters) 1 1 refl), (inr (store-may t o (length (block_text block))), (inl refl, tt)))))))
+    by twins = (
+      inl refl,
+      (
+        inl refl,
+        (
+          inl refl,
+          (
+            inr (users-may (user_of s) t o),
+            (
+              inr (both-may Filters filter_limit (length t.filters)
+                  (length o.filters) 1 1 refl),
+              (inr (store-may t o (length (block_text block))), (inl refl, tt)),
+            ),
+          ),
+        ),
+      ),
+    )
 checks-alike (Explain name) user s t o m at
     by twins = (inl refl, (inl refl, (inl (missing-same s name t o (own-twins user s t o by twins)), tt)))
 checks-alike (Ask moment source) user s t o m at by twins = (inl refl, (inl refl, (inl refl, (inl refl, tt))))

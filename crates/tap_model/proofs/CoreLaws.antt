@@ -37,14 +37,14 @@ less n runs each = each-map (λ run. run.query.0 ≤ n) (λ run. run.query.0 < n
 pub cores-new : (user : List ℕ) (t : Tables) (q : QueryRow) → IsKept query_truth start_of t → q.num.0 ≡ length t.queries + 1
     → bytes_eq q.owner user ≡ true
     → cores user t.runs (t.queries ++ q ∷ [])
-        ≡ cores user t.runs t.queries ++ record { name = q.name; source = q.source; arrival = q.arrival; runs = [] } ∷ []
+    ≡ cores user t.runs t.queries ++ record { name = q.name; source = q.source; arrival = q.arrival; runs = [] } ∷ []
 cores-new user t q kept is own =
     let none : runs_of q.num.0 t.runs ≡ [] =
-        runs-none q.num.0 t.runs (subst (λ n. Each (λ run. run.query.0 < n) t.runs) (sym is) (less (length t.queries) t.runs kept.owned)) in
+    runs-none q.num.0 t.runs (subst (λ n. Each (λ run. run.query.0 < n) t.runs) (sym is) (less (length t.queries) t.runs kept.owned)) in
     let moments : run_moments q.num.0 t.runs ≡ [] = ap (map (λ run. run.moment)) none in
     let one : filter (λ query. bytes_eq query.owner user) (q ∷ []) ≡ q ∷ [] = ap (λ b. if b then q ∷ [] else []) own in
     ap (map (core_of t.runs)) (filter-append (λ query. bytes_eq query.owner user) t.queries (q ∷ [])
-        ∙ ap (λ qs. filter (λ query. bytes_eq query.owner user) t.queries ++ qs) one)
+    ∙ ap (λ qs. filter (λ query. bytes_eq query.owner user) t.queries ++ qs) one)
     ∙ map-append (core_of t.runs) (filter (λ query. bytes_eq query.owner user) t.queries) (q ∷ [])
     ∙ ap (λ ms. cores user t.runs t.queries ++ record { name = q.name; source = q.source; arrival = q.arrival; runs = ms } ∷ []) moments
 
@@ -60,15 +60,15 @@ cores-above : (user : List ℕ) (runs : List RunRow) (run : RunRow) (k : ℕ) (q
 cores-above user runs run k [] from lt = refl
 cores-above user runs run k (q ∷ qs) from lt =
     go (bytes_eq q.owner user) (cores-above user runs run (suc k) qs from.1 (omega (arith, lt))) where
-  same : run_moments q.num.0 (runs ++ run ∷ []) ≡ run_moments q.num.0 runs
-  same = moments-other q.num.0 runs run (λ e. absurd (omega (arith, e, lt, from.0)))
+      same : run_moments q.num.0 (runs ++ run ∷ []) ≡ run_moments q.num.0 runs
+      same = moments-other q.num.0 runs run (λ e. absurd (omega (arith, e, lt, from.0)))
 
-  go : (b : Bool) → cores user (runs ++ run ∷ []) qs ≡ cores user runs qs
-      → map (core_of (runs ++ run ∷ [])) (if b then q ∷ filter (λ query. bytes_eq query.owner user) qs
-            else filter (λ query. bytes_eq query.owner user) qs) ≡ map (core_of runs)
+      go : (b : Bool) → cores user (runs ++ run ∷ []) qs ≡ cores user runs qs
+          → map (core_of (runs ++ run ∷ [])) (if b then q ∷ filter (λ query. bytes_eq query.owner user) qs
+          else filter (λ query. bytes_eq query.owner user) qs) ≡ map (core_of runs)
           (if b then q ∷ filter (λ query. bytes_eq query.owner user) qs else filter (λ query. bytes_eq query.owner user) qs)
-  go true rest = join q.name q.source q.arrival _ _ _ _ same rest
-  go false rest = rest
+      go true rest = join q.name q.source q.arrival _ _ _ _ same rest
+      go false rest = rest
 
 pub same-text : (x y : List ℕ) → bytes_eq x y ≡ true → x ≡ y
 same-text x y e = search (rules, bytes_eq-Decides)
@@ -81,8 +81,8 @@ abbrev pub with_run : List ℕ → ℤ → List Core → List Core
 with_run name moment [] = []
 with_run name moment (core ∷ rest) =
     if bytes_eq core.name name
-        then record { name = core.name; source = core.source; arrival = core.arrival; runs = core.runs ++ moment ∷ [] } ∷ rest
-        else core ∷ with_run name moment rest
+    then record { name = core.name; source = core.source; arrival = core.arrival; runs = core.runs ++ moment ∷ [] } ∷ rest
+    else core ∷ with_run name moment rest
 
 -- a run of the user's query of a name
 pub cores-run : (user name : List ℕ) (runs : List RunRow) (run : RunRow) (k : ℕ) (qs : List QueryRow) (q : QueryRow) → QueriesFrom k qs
@@ -95,7 +95,7 @@ cores-run user name runs run k (x ∷ qs) q from is of =
       found : (a b : Bool) → bytes_eq x.owner user ≡ a → bytes_eq x.name name ≡ b
           → (if a && b then Some x else find (is_query_of user name) qs) ≡ Some q
       found a b e f = sym (ap (λ z. if z && bytes_eq x.name name then Some x else find (is_query_of user name) qs) e
-            ∙ ap (λ z. if a && z then Some x else find (is_query_of user name) qs) f) ∙ is
+          ∙ ap (λ z. if a && z then Some x else find (is_query_of user name) qs) f) ∙ is
 
       later : find (is_query_of user name) qs ≡ Some q → (run.query.0 ≡ x.num.0 → ⊥)
       later e =
@@ -105,12 +105,12 @@ cores-run user name runs run k (x ∷ qs) q from is of =
       go : (a : Bool) → bytes_eq x.owner user ≡ a → (b : Bool) → bytes_eq x.name name ≡ b
           → (find (is_query_of user name) qs ≡ Some q → cores user (runs ++ run ∷ []) qs ≡ with_run name run.moment (cores user runs qs))
           → map (core_of (runs ++ run ∷ [])) (if a then x ∷ filter (λ query. bytes_eq query.owner user) qs
-                else filter (λ query. bytes_eq query.owner user) qs) ≡ with_run name run.moment (map (core_of runs)
-                (if a then x ∷ filter (λ query. bytes_eq query.owner user) qs else filter (λ query. bytes_eq query.owner user) qs))
+          else filter (λ query. bytes_eq query.owner user) qs) ≡ with_run name run.moment (map (core_of runs)
+          (if a then x ∷ filter (λ query. bytes_eq query.owner user) qs else filter (λ query. bytes_eq query.owner user) qs))
       go true e true f rest =
           let same : run.query.0 ≡ x.num.0 = of ∙ sym (ap (λ row. row.num.0) (some-row x q (found true true e f))) in
           rw f (join x.name x.source x.arrival _ _ _ _ (moments-new x.num.0 runs run same)
-              (cores-above user runs run (suc k) qs from.1 (omega (arith, same, from.0))))
+          (cores-above user runs run (suc k) qs from.1 (omega (arith, same, from.0))))
       go true e false f rest =
           let there = found true false e f in
           rw f (join x.name x.source x.arrival _ _ _ _ (moments-other x.num.0 runs run (later there)) (rest there))
@@ -123,7 +123,7 @@ pub cores-run-other : (user owner name : List ℕ) (runs : List RunRow) (run : R
 cores-run-other user owner name runs run k [] q other from is of = refl
 cores-run-other user owner name runs run k (x ∷ qs) q other from is of =
     go (bytes_eq x.owner user) refl (is_query_of owner name x) refl
-      (λ found. cores-run-other user owner name runs run (suc k) qs q other from.1 found of) where
+    (λ found. cores-run-other user owner name runs run (suc k) qs q other from.1 found of) where
       found : (b : Bool) → is_query_of owner name x ≡ b → (if b then Some x else find (is_query_of owner name) qs) ≡ Some q
       found b e = sym (ap (λ z. if z then Some x else find (is_query_of owner name) qs) e) ∙ is
 
@@ -142,8 +142,8 @@ cores-run-other user owner name runs run k (x ∷ qs) q other from is of =
       go : (a : Bool) → bytes_eq x.owner user ≡ a → (b : Bool) → is_query_of owner name x ≡ b
           → (find (is_query_of owner name) qs ≡ Some q → cores user (runs ++ run ∷ []) qs ≡ cores user runs qs)
           → map (core_of (runs ++ run ∷ [])) (if a then x ∷ filter (λ query. bytes_eq query.owner user) qs
-                else filter (λ query. bytes_eq query.owner user) qs) ≡ map (core_of runs)
-              (if a then x ∷ filter (λ query. bytes_eq query.owner user) qs else filter (λ query. bytes_eq query.owner user) qs)
+          else filter (λ query. bytes_eq query.owner user) qs) ≡ map (core_of runs)
+          (if a then x ∷ filter (λ query. bytes_eq query.owner user) qs else filter (λ query. bytes_eq query.owner user) qs)
       go true e true f rest =
           let named : x.owner ≡ owner = same-text x.owner owner (left (bytes_eq x.owner owner) (bytes_eq x.name name) f) in
           absurd (both (sym e ∙ ap (λ o. bytes_eq o user) named ∙ other))

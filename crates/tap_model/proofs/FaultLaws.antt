@@ -41,7 +41,7 @@ pub lexed-fine : (text : List ℕ) → lexed text ≡ Err LexMemory → ⊥
 lexed-fine text e = go (nat_lt 4096 (length text)) refl where
   go : (b : Bool) → nat_lt 4096 (length text) ≡ b → ⊥
   go true long = lex-apart (length text) (err-same (TooLong (length text)) LexMemory
-        (sym (ap (λ b. if b then Err (TooLong (length text)) else tokens_from 0 0 text) long) ∙ e))
+      (sym (ap (λ b. if b then Err (TooLong (length text)) else tokens_from 0 0 text) long) ∙ e))
   go false n = (fault_has_cause text LexMemory (short (length text) n) e).cause
 
 -- no fault of types, or one that isn't out of memory
@@ -87,22 +87,22 @@ expr-calm scope (E.Moment place text shift) =
     sooner-calm (moment_fault text place) (span_fault shift) (moment-calm text place) (span-calm shift)
 expr-calm scope (E.Field var var_place field field_place shift) =
     sooner-calm (field_fault (variable_named var scope) var_place field field_place shift) (span_fault shift)
-      (field-calm (variable_named var scope) var_place field field_place shift) (span-calm shift)
+    (field-calm (variable_named var scope) var_place field field_place shift) (span-calm shift)
 
 clash-calm : (left right : Option TypeFault) (fits : Bool) (place : ℕ) → calm left ≡ true → calm right ≡ true
     → calm (clash left right fits place) ≡ true
 clash-calm left right fits place l r = elim (is_some left || is_some right)
     as (λ b. calm (if b then sooner left right else (if fits then None else Some (Clash place))) ≡ true) [
-  | true ↦ sooner-calm left right l r
-  | false ↦ elim fits as (λ b. calm (if b then None else Some (Clash place)) ≡ true) [ true ↦ refl | false ↦ refl ]
-]
+      | true ↦ sooner-calm left right l r
+      | false ↦ elim fits as (λ b. calm (if b then None else Some (Clash place)) ≡ true) [ true ↦ refl | false ↦ refl ]
+    ]
 
 binder-calm : (scope : List Variable) (count : ℕ) (name : List ℕ) (place : ℕ) → calm (binder_fault scope count name place) ≡ true
 binder-calm scope count name place = elim (is_some (variable_named name scope))
     as (λ b. calm (if b then Some (Shadow place) else (if nat_lt count 6 then None else Some (ManyVars place))) ≡ true) [
-  | true ↦ refl
-  | false ↦ elim (nat_lt count 6) as (λ b. calm (if b then None else Some (ManyVars place)) ≡ true) [ true ↦ refl | false ↦ refl ]
-]
+      | true ↦ refl
+      | false ↦ elim (nat_lt count 6) as (λ b. calm (if b then None else Some (ManyVars place)) ≡ true) [ true ↦ refl | false ↦ refl ]
+    ]
 
 first-calm : (scope : List Variable) (count : ℕ) (tree : Syntax) → calm (first_fault scope count tree) ≡ true
 first-calm scope count True = refl
@@ -117,10 +117,10 @@ first-calm scope count (Exists name place table body) =
     (binder-calm scope count name place) (first-calm (inner_scope scope count name place table) (next_variable count) body)
 first-calm scope count (Compare left op place right) =
     clash-calm (expr_fault scope left) (expr_fault scope right) (comparable (sort_of scope left) (sort_of scope right)) place
-      (expr-calm scope left) (expr-calm scope right)
+    (expr-calm scope left) (expr-calm scope right)
 first-calm scope count (Has left place right) =
     clash-calm (expr_fault scope left) (expr_fault scope right) (holdable (sort_of scope left) (sort_of scope right)) place
-      (expr-calm scope left) (expr-calm scope right)
+    (expr-calm scope left) (expr-calm scope right)
 
 -- the fault of a typing, if it has one
 abbrev fault_in : Result Condition TypeFault → Option TypeFault
@@ -130,7 +130,7 @@ fault_in (Err fault) = Some fault
 pub typed-fine : (tree : Syntax) → typed tree ≡ Err Memory → ⊥
 typed-fine tree e =
     false≢true (sym (ap (λ r. calm (fault_in r)) e) ∙ go (first_fault first_scope 1 tree) (first-calm first_scope 1 tree)) where
-  go : (o : Option TypeFault) → calm o ≡ true → calm (fault_in (unless_fault o (core first_scope 1 tree))) ≡ true
-  go None c = elim (nat_le (nodes (core first_scope 1 tree)) 128)
-      as (λ b. calm (fault_in (if b then Ok (core first_scope 1 tree) else Err ManyNodes)) ≡ true) [ true ↦ refl | false ↦ refl ]
-  go (Some fault) c = c
+      go : (o : Option TypeFault) → calm o ≡ true → calm (fault_in (unless_fault o (core first_scope 1 tree))) ≡ true
+      go None c = elim (nat_le (nodes (core first_scope 1 tree)) 128)
+          as (λ b. calm (fault_in (if b then Ok (core first_scope 1 tree) else Err ManyNodes)) ≡ true) [ true ↦ refl | false ↦ refl ]
+      go (Some fault) c = c

@@ -61,8 +61,8 @@ unfolding no_doc
 doc-within doc count e =
     let both = and_parts (nat_le 1 doc) (nat_le doc count) (refuse_unless-holds (nat_le 1 doc && nat_le doc count) NoDoc e) in
     (le 1 doc both.0, le doc count both.1) where
-  le : (a b : ℕ) → nat_le a b ≡ true → a ≤ b
-  le a b e = grind arith
+      le : (a b : ℕ) → nat_le a b ≡ true → a ≤ b
+      le a b e = grind arith
 
 -- the session's user, where there is one
 named : (user : Option (List ℕ)) → IsUser user → missing NoUser user ≡ None → is_name (or_empty user) ≡ true
@@ -107,7 +107,7 @@ docs-fit place low m [] le last short = refl
 docs-fit place low m (text ∷ texts) le last short =
     let both = and_parts (nat_le (length text) message_limit) (are_short texts) short in
     and_from _ _ (and_from _ _ (and_from _ _ (same-num place) (follows low m le last)) both.0)
-      (docs-fit (place + 1) m m texts (omega (arith, ints)) last both.1)
+    (docs-fit (place + 1) m m texts (omega (arith, ints)) last both.1)
 
 some-fit : (tables : Tables) (docs : List Doc) (change : Change) → fits tables (Docs docs) ≡ true → some_docs docs ≡ Some change
     → fits tables change ≡ true
@@ -119,7 +119,7 @@ texts-fit : (texts : List (List ℕ)) (session : Session) (tables : Tables) → 
 texts-fit texts session tables at none short =
     let now = at-moment_or_zero tables session at none in
     docs-fit (length tables.docs + 1) (low_of (λ doc. doc.arrival) tables.docs) (moment_or_zero session) texts
-      (low-by (λ doc. doc.arrival) (moment_or_zero session) tables.docs now.0.0 now.1.docs) now.0.1 short
+    (low-by (λ doc. doc.arrival) (moment_or_zero session) tables.docs now.0.0 now.1.docs) now.0.1 short
 
 mail-short : (block : Block) → too_long block ≡ None → are_short (block_text block ∷ []) ≡ true
 mail-short Long e = refl
@@ -134,11 +134,11 @@ note-fit doc kind value text session tables at is none user name there =
     let now = at-moment_or_zero tables session at none in
     let within = doc-within doc (length tables.docs) there in
     let arrived = row-within (λ doc. int_le doc.arrival (moment_or_zero session)) tables.docs doc within.0 within.1
-        (each-map (λ doc. doc.arrival ≤ℤ moment_or_zero session) (λ doc. int_le doc.arrival (moment_or_zero session) ≡ true)
-          tables.docs (λ doc le. le-yes doc.arrival (moment_or_zero session) le) now.1.docs) in
+    (each-map (λ doc. doc.arrival ≤ℤ moment_or_zero session) (λ doc. int_le doc.arrival (moment_or_zero session) ≡ true)
+    tables.docs (λ doc le. le-yes doc.arrival (moment_or_zero session) le) now.1.docs) in
     and_from _ _ (and_from _ _ (and_from _ _ (and_from _ _ (same-num (length tables.notes + 1))
-            (behind (λ note. note.arrival) (moment_or_zero session) tables.notes now.0 now.1.notes)) arrived) (named session.user is user))
-      (name-is kind name)
+    (behind (λ note. note.arrival) (moment_or_zero session) tables.notes now.0 now.1.notes)) arrived) (named session.user is user))
+    (name-is kind name)
 
 -- a query of a name that the user has no query of
 none-found : (p : QueryRow → Bool) (queries : List QueryRow) → is_none (find p queries) ≡ true → list_any p queries ≡ false
@@ -158,11 +158,11 @@ query-fit : (name source : List ℕ) (session : Session) (tables : Tables) → I
 query-fit name source session tables at is none user bad free =
     let now = at-moment_or_zero tables session at none in
     let by = each-map (λ query. (query.arrival ≤ℤ moment_or_zero session) × (start_of query ≤ℤ moment_or_zero session))
-        (λ query. query.arrival ≤ℤ moment_or_zero session) tables.queries (λ query le. le.0) now.1.queries in
+    (λ query. query.arrival ≤ℤ moment_or_zero session) tables.queries (λ query le. le.0) now.1.queries in
     let absent = none-found (is_query_of (user_of session) name)
-        tables.queries (refuse_unless-holds (is_none (query_named (user_of session) name tables)) Taken free) in
+    tables.queries (refuse_unless-holds (is_none (query_named (user_of session) name tables)) Taken free) in
     and_from _ _ (and_from _ _ (and_from _ _ (and_from _ _ (same-num (length tables.queries + 1)) (behind (λ query. query.arrival)
-              (moment_or_zero session) tables.queries now.0 by)) (named session.user is user)) (name-is name bad)) (ap not absent)
+    (moment_or_zero session) tables.queries now.0 by)) (named session.user is user)) (name-is name bad)) (ap not absent)
 
 filter-fit : (source : List ℕ) (session : Session) (tables : Tables) → IsNow session.moment tables → IsUser session.user
     → missing NoMoment session.moment ≡ None → missing NoUser session.user ≡ None
@@ -170,7 +170,7 @@ filter-fit : (source : List ℕ) (session : Session) (tables : Tables) → IsNow
 filter-fit source session tables at is none user =
     let now = at-moment_or_zero tables session at none in
     and_from _ _ (and_from _ _ (same-num (length tables.filters + 1))
-        (behind (λ filter. filter.arrival) (moment_or_zero session) tables.filters now.0 now.1.filters)) (named session.user is user)
+    (behind (λ filter. filter.arrival) (moment_or_zero session) tables.filters now.0 now.1.filters)) (named session.user is user)
 
 -- a run, in which each document is delivered for the first time
 run-fit : (session : Session) (tables : Tables) (query : Option QueryRow) → ((q : QueryRow) → query ≡ Some q → In q tables.queries)
@@ -180,7 +180,7 @@ run-fit session tables None has kept at none change e = absurd (no-change change
 run-fit session tables (Some q) has kept at none change e =
     let now = at-moment_or_zero tables session at none in
     made tables (run_change (query_truth q) (start_of q) tables q.num (moment_or_zero session)) change
-      (run-fits query_truth start_of (moment_or_zero session) tables q kept now.1 now.0.0 now.0.1 (has q refl)) e
+    (run-fits query_truth start_of (moment_or_zero session) tables q kept now.1 now.0.0 now.0.1 (has q refl)) e
 
 moment-fit : (second : Option ℤ) (session : Session) (tables : Tables) → Fit tables (set_moment second session)
 moment-fit None session tables change e = absurd (no-change change e)
@@ -221,26 +221,26 @@ command-fits (At text) session tables sound pass change e = moment-fit (moment_o
 command-fits (AsUser name) session tables sound pass change e = absurd (no-change change e)
 command-fits (Mail block) session tables sound pass change e =
     some-fit tables (next_docs tables (moment_or_zero session) (block_text block ∷ [])) change
-      (texts-fit (block_text block ∷ []) session tables sound.now pass.0 (mail-short block pass.1.0)) e
+    (texts-fit (block_text block ∷ []) session tables sound.now pass.0 (mail-short block pass.1.0)) e
 command-fits (Define name source) session tables sound pass change e =
     made tables (OneQuery (next_query tables session name (stored_source source))) change
-      (query-fit name (stored_source source) session tables sound.now sound.user pass.0 pass.1.0 pass.1.1.0 pass.1.1.1.0) e
+    (query-fit name (stored_source source) session tables sound.now sound.user pass.0 pass.1.0 pass.1.1.0 pass.1.1.1.0) e
 command-fits (Run name) session tables sound pass change e =
     run-fit session tables (query_named (user_of session) name tables) (find-in (is_query_of (user_of session) name) tables.queries)
-      (sound.kept refl) sound.now pass.0 change e
+    (sound.kept refl) sound.now pass.0 change e
 command-fits (BoxOf name) session tables sound pass change e =
     box-fit (query_named (user_of session) name tables) name session tables change e
 command-fits (Mbox block) session tables sound pass change e =
     some-fit tables (next_docs tables (moment_or_zero session) (messages_of block)) change (texts-fit (messages_of block) session tables
-        sound.now pass.0 (refuse_unless-holds (are_short (messages_of block)) (Limit Message) pass.1.0)) e
+    sound.now pass.0 (refuse_unless-holds (are_short (messages_of block)) (Limit Message) pass.1.0)) e
 command-fits (AddNote doc kind value text) session tables sound pass change e =
     made tables (OneNote (next_note tables session doc kind value text)) change
-      (note-fit doc kind value text session tables sound.now sound.user pass.0 pass.1.0 pass.1.1.0 pass.1.1.1.0) e
+    (note-fit doc kind value text session tables sound.now sound.user pass.0 pass.1.0 pass.1.1.0 pass.1.1.1.0) e
 command-fits (ListOf name) session tables sound pass change e =
     list-fit (query_named (user_of session) name tables) name session tables change e
 command-fits (Filter block) session tables sound pass change e =
     made tables (OneFilter (next_filter tables session (block_text block))) change
-      (filter-fit (block_text block) session tables sound.now sound.user pass.0 pass.1.0) e
+    (filter-fit (block_text block) session tables sound.now sound.user pass.0 pass.1.0) e
 command-fits (Explain name) session tables sound pass change e =
     lines-fit (query_named (user_of session) name tables) name session tables change e
 command-fits (Ask moment source) session tables sound pass change e = ask-fit (moment_of moment) source session tables change e

@@ -38,9 +38,11 @@ docs-arrived place low [] e = tt
 docs-arrived place low (doc ∷ docs) e =
     let both = and_parts (doc_stands place low doc) (docs_stand (place + 1) doc.arrival docs) e in
     let this = and_parts _ _ both.0 in
-    let here = and_parts _ _ this.0 in
-    ((follows low doc.arrival here.1).0, equal doc.num.0 place here.0,
-      subst (λ n. Arrived n doc.arrival docs) (next place) (docs-arrived (place + 1) doc.arrival docs both.1))
+    let here = and_parts _ _ this.0 in (
+      (follows low doc.arrival here.1).0,
+      equal doc.num.0 place here.0,
+      subst (λ n. Arrived n doc.arrival docs) (next place) (docs-arrived (place + 1) doc.arrival docs both.1),
+    )
 
 -- the row of a number is one of that many
 row-within : {A : Type 0} (xs : List A) (i : ℕ) (x : A) → slice_get xs i ≡ Some x → i < length xs
@@ -66,7 +68,7 @@ queries-from : (earlier : List QueryRow) (place : ℕ) (low : ℤ) (queries : Li
 queries-from earlier place low [] from e = (tt, tt)
 queries-from earlier place low (query ∷ queries) from e =
     let both =
-        and_parts (query_stands earlier place low query) (queries_stand (earlier ++ query ∷ []) (place + 1) query.arrival queries) e in
+    and_parts (query_stands earlier place low query) (queries_stand (earlier ++ query ∷ []) (place + 1) query.arrival queries) e in
     let once = and_parts _ _ both.0 in
     let name = and_parts _ _ once.0 in
     let owner = and_parts _ _ name.0 in
@@ -85,9 +87,11 @@ runs-from queries place low (run ∷ runs) from e =
     let here = and_parts _ _ this.0 in
     let moment = follows low run.moment here.1 in
     let above : pos 0 ≤ℤ run.moment = omega (arith, ints, moment.0, from) in
-    let rest = runs-from queries (place + 1) run.moment runs above both.1 in
-    ((equal run.num place here.0, subst (λ n. RunsFrom n runs) (next place) rest.0),
-      (one-of (λ query. int_le query.arrival run.moment) run.query.0 queries this.1, rest.1), ((above, moment.1), rest.2))
+    let rest = runs-from queries (place + 1) run.moment runs above both.1 in (
+      (equal run.num place here.0, subst (λ n. RunsFrom n runs) (next place) rest.0),
+      (one-of (λ query. int_le query.arrival run.moment) run.query.0 queries this.1, rest.1),
+      ((above, moment.1), rest.2),
+    )
 
 -- the run at a place is there
 has-at : (k i : ℕ) (runs : List RunRow) (run : RunRow) (query : ℕ) → RunsFrom k runs → slice_get runs i ≡ Some run → run.query.0 ≡ query
@@ -96,8 +100,8 @@ has-at k i [] run query from e of = absurd (none-some run e)
 has-at k zero (x ∷ runs) run query from e of = let same = same_Some x run e in inl (omega (arith, from.0), ap (λ r. r.query.0) same ∙ of)
 has-at k (suc i) (x ∷ runs) run query from e of =
     inr (subst (λ n. HasRun n query runs) (shift k i) (has-at (suc k) i runs run query from.1 e of)) where
-  shift : (k i : ℕ) → suc k + i ≡ k + suc i
-  shift k i = omega arith
+      shift : (k i : ℕ) → suc k + i ≡ k + suc i
+      shift k i = omega arith
 
 row-has : (num query : ℕ) (runs : List RunRow) (run : RunRow) → RunsFrom 1 runs → row_at num runs ≡ Some run → run.query.0 ≡ query
     → HasRun num query runs
@@ -105,8 +109,8 @@ row-has zero query runs run from e of = absurd (none-some run e)
 row-has (suc n) query runs run from e of =
     let some = some-is n in
     subst (λ n. HasRun n query runs) (place n) (has-at 1 (suc n - 1) runs run query from (rw some at e) of) where
-  place : (n : ℕ) → 1 + (suc n - 1) ≡ suc n
-  place n = omega arith
+      place : (n : ℕ) → 1 + (suc n - 1) ≡ suc n
+      place n = omega arith
 
 pick-has : (pick : Pick) (runs : List RunRow) (run : Option RunRow) (doc : Option Doc) → RunsFrom 1 runs → row_at pick.run runs ≡ run
     → is_picked pick run doc ≡ true → HasRun pick.run pick.query.0 runs
@@ -122,12 +126,13 @@ picks-have : (runs : List RunRow) (docs : List Doc) (earlier : List Pick) (place
 picks-have runs docs earlier place before [] from e = tt
 picks-have runs docs earlier place before (pick ∷ picks) from e =
     let both = and_parts (pick_stands runs docs earlier place before pick)
-        (picks_stand runs docs (earlier ++ pick ∷ []) (place + 1) (Some pick) picks) e in
+    (picks_stand runs docs (earlier ++ pick ∷ []) (place + 1) (Some pick) picks) e in
     let order = and_parts _ _ both.0 in
     let once = and_parts _ _ order.0 in
-    let this = and_parts _ _ once.0 in
-    (pick-has pick runs (row_at pick.run runs) (row_at pick.doc.0 docs) from refl this.1,
-      picks-have runs docs (earlier ++ pick ∷ []) (place + 1) (Some pick) picks from both.1)
+    let this = and_parts _ _ once.0 in (
+      pick-has pick runs (row_at pick.run runs) (row_at pick.doc.0 docs) from refl this.1,
+      picks-have runs docs (earlier ++ pick ∷ []) (place + 1) (Some pick) picks from both.1,
+    )
 
 -- the numbers go up from the first one on
 above : (k : ℕ) (queries : List QueryRow) (query : QueryRow) → QueriesFrom k queries → In query queries → k ≤ query.num.0
@@ -159,7 +164,7 @@ ran-late : (queries : List QueryRow) (query : QueryRow) (run : RunRow) → Queri
 ran-late queries query run from has same defined =
     let test : QueryRow → Bool = λ query. int_le query.arrival run.moment in
     up-to query.arrival run.moment
-      (sym (ap (is_row test) (query-at run.query.0 queries query from has (sym (equal run.query.0 query.num.0 same)))) ∙ defined) where
+    (sym (ap (is_row test) (query-at run.query.0 queries query from has (sym (equal run.query.0 query.num.0 same)))) ∙ defined) where
       up-to : (a b : ℤ) → int_le a b ≡ true → a ≤ℤ b
       up-to a b e = grind (arith, ints)
 
@@ -174,8 +179,10 @@ runs-rising queries query place low start (run ∷ runs) from has begins e =
     let here = and_parts _ _ this.0 in
     let after = (follows low run.moment here.1).0 in
     elim (cases_Bool (run.query.0 == query.num.0)) [
-      | inl y ↦ rw y (late start low query.arrival run.moment begins after (ran-late queries query run from has y this.1),
-          runs-rising queries query (place + 1) run.moment run.moment runs from has (inr (same run.moment)) both.1)
+      | inl y ↦ rw y (
+        late start low query.arrival run.moment begins after (ran-late queries query run from has y this.1),
+        runs-rising queries query (place + 1) run.moment run.moment runs from has (inr (same run.moment)) both.1,
+      )
       | inr n ↦ rw n (runs-rising queries query (place + 1) run.moment start runs from has
           (next-low start low query.arrival run.moment begins after) both.1)
     ]

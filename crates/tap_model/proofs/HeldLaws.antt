@@ -172,8 +172,10 @@ at-held {Asked = Asked} text session tables held none = go (moment_of text) refl
   go (Some m) is =
       let range = moment-in-range text m is in
       let back = second-none (missing BadMoment (moment_of text)) (is_back (last_moment session tables) (moment_of text)) [] none in
-      record { kept = held.kept;
-          now = (range, at-by tables session m held range.0 (sym (ap (is_back (last_moment session tables)) is) ∙ back)) }
+      record {
+        kept = held.kept;
+        now = (range, at-by tables session m held range.0 (sym (ap (is_back (last_moment session tables)) is) ∙ back));
+      }
 
 -- one more document at the end
 arrived-more : (num : ℕ) (low m : ℤ) (docs : List Doc) (doc : Doc) → Arrived num low docs → Each (λ doc. doc.arrival ≤ℤ m) docs → low ≤ℤ m
@@ -215,19 +217,22 @@ each-at P num moment (text ∷ texts) all =
 
 arrived-from : (num : ℕ) (low m moment : ℤ) (texts : List (List ℕ)) → low ≤ℤ m → moment ≡ m → Arrived num low (docs_from num moment texts)
 arrived-from num low m moment [] le at = tt
-arrived-from num low m moment (text ∷ texts) le at =
-    (subst (λ z. low ≤ℤ z) (sym at) le, refl, subst (λ n. Arrived n moment (docs_from (num + 1) moment texts)) (up num)
-        (arrived-from (num + 1) moment m moment texts (subst (λ z. z ≤ℤ m) (sym at) (omega (arith, ints))) at)) where
-      up : (n : ℕ) → n + 1 ≡ suc n
-      up n = omega arith
+arrived-from num low m moment (text ∷ texts) le at = (
+  subst (λ z. low ≤ℤ z) (sym at) le,
+  refl,
+  subst (λ n. Arrived n moment (docs_from (num + 1) moment texts)) (up num)
+      (arrived-from (num + 1) moment m moment texts (subst (λ z. z ≤ℤ m) (sym at) (omega (arith, ints))) at),
+) where
+  up : (n : ℕ) → n + 1 ≡ suc n
+  up n = omega arith
 
 arrived-all : (num : ℕ) (low m moment : ℤ) (docs : List Doc) (texts : List (List ℕ)) (next : ℕ) → Arrived num low docs
     → Each (λ doc. doc.arrival ≤ℤ m) docs → low ≤ℤ m → moment ≡ m → next ≡ num + length docs
     → Arrived num low (docs ++ docs_from next moment texts)
 arrived-all num low m moment [] texts next arrived each le at is =
     subst (λ n. Arrived num low (docs_from n moment texts)) (none is) (arrived-from num low m moment texts le at) where
-  none : next ≡ num + 0 → num ≡ next
-  none e = omega (arith, e)
+      none : next ≡ num + 0 → num ≡ next
+      none e = omega (arith, e)
 arrived-all num low m moment (doc ∷ docs) texts next arrived each le at is =
     (arrived.0, arrived.1, arrived-all (suc num) doc.arrival m moment docs texts next arrived.2 each.1 each.0 at (omega (arith, is)))
 
@@ -259,11 +264,11 @@ mbox-held texts session tables held there =
     let at : moment_or_zero session ≡ m = ap or_zero there.is in
     docs-held (next_docs tables (moment_or_zero session) texts) m session tables held there.is
     (each-at (λ doc. doc.arrival ≤ℤ m) (length tables.docs + 1) (moment_or_zero session) texts (λ doc e.
-      subst (λ z. z ≤ℤ m) (sym (e ∙ at)) (omega (arith, ints))))
+    subst (λ z. z ≤ℤ m) (sym (e ∙ at)) (omega (arith, ints))))
     (each-at (λ doc. m ≤ℤ doc.arrival) (length tables.docs + 1) (moment_or_zero session) texts (λ doc e.
-      subst (λ z. m ≤ℤ z) (sym (e ∙ at)) (omega (arith, ints))))
+    subst (λ z. m ≤ℤ z) (sym (e ∙ at)) (omega (arith, ints))))
     (λ asked. arrived-all 1 (pos 0) m (moment_or_zero session) tables.docs texts (length tables.docs + 1)
-      (held.kept asked).docs now.1.docs now.0.0 at (omega arith))
+    (held.kept asked).docs now.1.docs now.0.0 at (omega arith))
 
 note-held : {Asked : Type 0} (doc : ℕ) (kind : List ℕ) (value : ℤ) (text : List ℕ) (session : Session) (tables : Tables)
     → Held Asked tables session → Present session → Leaves Asked tables (accepted (AddNote doc kind value text) session tables)
@@ -319,8 +324,11 @@ run-held {Asked = Asked} session tables (Some q) has held there =
     let m = there.m in
     let now = now-at tables session m there.is held in
     let at : moment_or_zero session ≡ m = ap or_zero there.is in
-    subst (λ z. Leaves Asked tables (record { reply = (run_query (Some q) session tables).reply; session = session;
-              change = Some (run_change (query_truth q) (start_of q) tables q.num z) })) (sym at) (record {
+    subst (λ z. Leaves Asked tables (record {
+      reply = (run_query (Some q) session tables).reply;
+      session = session;
+      change = Some (run_change (query_truth q) (start_of q) tables q.num z);
+    })) (sym at) (record {
       kept = λ asked. kept-run query_truth start_of truth-of-second m tables q (held.kept asked) now.1 (has q refl);
       now = subst (λ moment. IsNow moment (after tables (run_change (query_truth q) (start_of q) tables q.num m))) (sym there.is) (
         now.0,

@@ -329,28 +329,107 @@ module _ (s : Session) (t : Tables) where
   checks-fine (Bad refusal) p = (proper-fine refusal p, tt)
   checks-fine (At text) p = (missing-fine BadMoment (moment_of text) refl, (back-fine (last_moment s t) (moment_of text), tt))
   checks-fine (AsUser name) p = (name-fine name, tt)
-  checks-fine (Mail block) p = (now-fine, (message-fine block, (limit-fine N.Documents document_limit (length t.docs) 1,
-            (limit-fine N.Store store_limit (stored_bytes t) (length (block_text block)), tt))))
-  checks-fine (Define name source) p = (now-fine, (user-fine, (name-fine name,
-            (taken-fine, (text-fine (condition_text source), (limit-fine N.Queries user_query_limit (queries_of (user_of s) t) 1,
-                (limit-fine N.AllQueries query_limit (length t.queries) 1, (limit-fine N.Users user_limit (different (owners_in t))
-                (new_users (user_of s) t), (limit-fine N.Store store_limit (stored_bytes t) (length (stored_source source)), tt)))))))))
+  checks-fine (Mail block) p = (
+    now-fine,
+    (
+      message-fine block,
+      (
+        limit-fine N.Documents document_limit (length t.docs) 1,
+        (limit-fine N.Store store_limit (stored_bytes t) (length (block_text block)), tt),
+      ),
+    ),
+  )
+  checks-fine (Define name source) p = (
+    now-fine,
+    (
+      user-fine,
+      (
+        name-fine name,
+        (
+          taken-fine,
+          (
+            text-fine (condition_text source),
+            (
+              limit-fine N.Queries user_query_limit (queries_of (user_of s) t) 1,
+              (
+                limit-fine N.AllQueries query_limit (length t.queries) 1,
+                (
+                  limit-fine N.Users user_limit (different (owners_in t))
+                      (new_users (user_of s) t),
+                  (limit-fine N.Store store_limit (stored_bytes t) (length (stored_source source)), tt),
+                ),
+              ),
+            ),
+          ),
+        ),
+      ),
+    ),
+  )
     where
       taken-fine : fine (taken s name t) ≡ true
       taken-fine = unless-fine _ Taken refl
-  checks-fine (Run name) p = (now-fine, (user-fine, (name-fine name, (query-fine name,
-              (limit-fine N.Runs run_limit (length t.runs) 1, (limit-fine N.Picks pick_limit (length t.picks) (delivers s name t), tt))))))
+  checks-fine (Run name) p = (
+    now-fine,
+    (
+      user-fine,
+      (
+        name-fine name,
+        (
+          query-fine name,
+          (limit-fine N.Runs run_limit (length t.runs) 1, (limit-fine N.Picks pick_limit (length t.picks) (delivers s name t), tt)),
+        ),
+      ),
+    ),
+  )
   checks-fine (BoxOf name) p = (user-fine, (name-fine name, (query-fine name, tt)))
-  checks-fine (Mbox block) p =
-      (now-fine, (unless-fine _ (Limit N.Message) refl, (block-fine block, (limit-fine N.Documents document_limit (length t.docs)
-              (length (messages_of block)), (limit-fine N.Store store_limit (stored_bytes t) (bytes_of_all (messages_of block)), tt)))))
-  checks-fine (AddNote doc kind value text) p =
-      (now-fine, (user-fine, (name-fine kind, (doc-fine doc (length t.docs), (note-fine (length text),
-                (limit-fine N.Notes note_limit (length t.notes) 1, (limit-fine N.Store store_limit (stored_bytes t) (length text), tt)))))))
+  checks-fine (Mbox block) p = (
+    now-fine,
+    (
+      unless-fine _ (Limit N.Message) refl,
+      (
+        block-fine block,
+        (
+          limit-fine N.Documents document_limit (length t.docs)
+              (length (messages_of block)),
+          (limit-fine N.Store store_limit (stored_bytes t) (bytes_of_all (messages_of block)), tt),
+        ),
+      ),
+    ),
+  )
+  checks-fine (AddNote doc kind value text) p = (
+    now-fine,
+    (
+      user-fine,
+      (
+        name-fine kind,
+        (
+          doc-fine doc (length t.docs),
+          (
+            note-fine (length text),
+            (limit-fine N.Notes note_limit (length t.notes) 1, (limit-fine N.Store store_limit (stored_bytes t) (length text), tt)),
+          ),
+        ),
+      ),
+    ),
+  )
   checks-fine (ListOf name) p = (user-fine, (name-fine name, (query-fine name, tt)))
-  checks-fine (Filter block) p = (now-fine, (user-fine, (filter-block-fine block, (limit-fine N.Users user_limit (different (owners_in t))
-              (new_users (user_of s) t), (limit-fine N.Filters filter_limit (length t.filters) 1,
-                (limit-fine N.Store store_limit (stored_bytes t) (length (block_text block)), (rules-fine (block_text block), tt)))))))
+  checks-fine (Filter block) p = (
+    now-fine,
+    (
+      user-fine,
+      (
+        filter-block-fine block,
+        (
+          limit-fine N.Users user_limit (different (owners_in t))
+              (new_users (user_of s) t),
+          (
+            limit-fine N.Filters filter_limit (length t.filters) 1,
+            (limit-fine N.Store store_limit (stored_bytes t) (length (block_text block)), (rules-fine (block_text block), tt)),
+          ),
+        ),
+      ),
+    ),
+  )
   checks-fine (Explain name) p = (user-fine, (name-fine name, (query-fine name, tt)))
   checks-fine (Ask moment source) p =
       (missing-fine BadMoment (moment_of moment) refl, (now-fine, (text-fine source, (over-fine (moment_of moment) s.moment, tt))))
@@ -414,13 +493,19 @@ module _ (s : Session) (t : Tables) where
 lines-proper : (state : State) (lines : List Line) → list_all is_proper (commands_from state lines) ≡ true
 lines-proper state [] = refl
 lines-proper state (line ∷ lines) =
-    rw (list_all-append is_proper (commands_of_line state line) (commands_from (after_line state line) lines), commands-proper state line,
-        lines-proper (after_line state line) lines) refl
+    rw (
+      list_all-append is_proper (commands_of_line state line) (commands_from (after_line state line) lines),
+      commands-proper state line,
+      lines-proper (after_line state line) lines,
+    ) refl
 
 script-proper : (bytes : List ℕ) → list_all is_proper (script bytes) ≡ true
 script-proper bytes =
-    rw (list_all-append is_proper (commands_from Outside (lines bytes)) (at_end (state_after Outside (lines bytes))),
-        lines-proper Outside (lines bytes), end-proper (state_after Outside (lines bytes))) refl
+    rw (
+      list_all-append is_proper (commands_from Outside (lines bytes)) (at_end (state_after Outside (lines bytes))),
+      lines-proper Outside (lines bytes),
+      end-proper (state_after Outside (lines bytes)),
+    ) refl
 
 -- a step of which `no 18` is the reply is out of memory
 step-gives-up : (t : Tables) (s : Session) (c : Command) (reply : Reply) (t' : Tables) (s' : Session) → is_proper c ≡ true
@@ -429,5 +514,8 @@ step-gives-up t s c reply t' s' proper (inl follows) e = absurd (answer-apart s 
 step-gives-up t s c reply t' s' proper (inr gives) e = gives
 
 pub answers-apart : AnswersAreNotMemory
-answers-apart = record { proper = script-proper; apart = λ tables session command proper e. answer-apart session tables command proper e;
-      step = step-gives-up }
+answers-apart = record {
+  proper = script-proper;
+  apart = λ tables session command proper e. answer-apart session tables command proper e;
+  step = step-gives-up;
+}

@@ -43,7 +43,7 @@ with-queries : (user : List ℕ) (s : Session) (t d : Tables) → d.docs ≡ t.d
 with-queries user s t d docs notes queries filter =
     ap (λ x. record { docs = x; notes = d.notes; queries = cores user d.runs d.queries; filter = source_in d user; moment = s.moment }) docs
     ∙ ap (λ x. record { docs = t.docs; notes = x; queries = cores user d.runs d.queries; filter = source_in d user; moment = s.moment })
-        notes
+    notes
     ∙ ap (λ x. record { docs = t.docs; notes = t.notes; queries = x; filter = source_in d user; moment = s.moment }) queries
     ∙ ap (λ x. record { docs = t.docs; notes = t.notes; queries = cores user t.runs t.queries; filter = x; moment = s.moment }) filter
 
@@ -51,15 +51,15 @@ define-other : (user name source : List ℕ) (s : Session) (t : Tables) → byte
     → Leaves user s t (accepted (Define name source) s t)
 define-other user name source s t other =
     with-queries user s t (tables_after (accepted (Define name source) s t).change t) refl refl
-      (cores-other user t.runs t.queries (next_query t s name (stored_source source)) other) refl
+    (cores-other user t.runs t.queries (next_query t s name (stored_source source)) other) refl
 
 run-other : (user name : List ℕ) (s : Session) (t : Tables) (q : Option QueryRow) → IsSound t s → bytes_eq (user_of s) user ≡ false
     → query_named (user_of s) name t ≡ q → Leaves user s t (run_query q s t)
 run-other user name s t None sound other is = refl
 run-other user name s t (Some q) sound other is =
     with-queries user s t (tables_after (run_query (Some q) s t).change t) refl refl
-      (cores-run-other user (user_of s) name t.runs (next_run t q.num (moment_or_zero s)) 1 t.queries q other sound.kept.queries is refl)
-      refl
+    (cores-run-other user (user_of s) name t.runs (next_run t q.num (moment_or_zero s)) 1 t.queries q other sound.kept.queries is refl)
+    refl
 
 box-other : (user name : List ℕ) (s : Session) (t : Tables) (q : Option QueryRow) → Leaves user s t (show_box q name s t)
 box-other user name s t None = refl
@@ -86,7 +86,7 @@ filter-left : (user source : List ℕ) (s : Session) (t : Tables) → bytes_eq (
     → brief_of user s (record t { filters = t.filters ++ next_filter t s source ∷ [] }) ≡ brief_of user s t
 filter-left user source s t other =
     with-queries user s t (record t { filters = t.filters ++ next_filter t s source ∷ [] }) refl refl refl
-        (ap (option_map (λ filter. filter.source)) (filter-other user t.filters (next_filter t s source) other))
+    (ap (option_map (λ filter. filter.source)) (filter-other user t.filters (next_filter t s source) other))
 
 ask-other : (user source : List ℕ) (s : Session) (t : Tables) (second : Option ℤ) → Leaves user s t (ask_at second source s t)
 ask-other user source s t None = refl
@@ -130,9 +130,9 @@ pub step-other : (user : List ℕ) (a : Move) → concerns user a.session a.comm
     → view_of user a.session' a.tables' ≡ view_of user a.session a.tables
 step-other user a other = view-same user a.session' a.session a.tables' a.tables
     (step-sound a.tables a.session a.command a.reply a.tables' a.session' a.step a.sound) a.sound (go a.step) where
-  go : StoryStep a.tables a.session a.command a.reply a.tables' a.session'
-      → brief_of user a.session' a.tables' ≡ brief_of user a.session a.tables
-  go (inl f) = ap (λ s. brief_of user s a.tables') f.session_is
-      ∙ ap (λ t. brief_of user (answer_of a.command a.session a.tables).session t) f.tables_are
-      ∙ answer-other a.command user a.session a.tables other a.sound
-  go (inr stays) = ap (λ s. brief_of user s a.tables') stays.session_is ∙ ap (λ t. brief_of user a.session t) stays.tables_are
+      go : StoryStep a.tables a.session a.command a.reply a.tables' a.session'
+          → brief_of user a.session' a.tables' ≡ brief_of user a.session a.tables
+      go (inl f) = ap (λ s. brief_of user s a.tables') f.session_is
+          ∙ ap (λ t. brief_of user (answer_of a.command a.session a.tables).session t) f.tables_are
+          ∙ answer-other a.command user a.session a.tables other a.sound
+      go (inr stays) = ap (λ s. brief_of user s a.tables') stays.session_is ∙ ap (λ t. brief_of user a.session t) stays.tables_are

@@ -73,7 +73,7 @@ brief-twins t s qs qs' f f' q e = rw (q, e) refl
 -- nothing moves but documents, notes and the moment, alike at both
 still : (user : List ℕ) (t o d : Tables) (s : Session) (reply : Reply) → AreTwins user t o
     → tell reply (briefly d s (cores user t.runs t.queries) (source_in t user))
-        ≡ tell reply (briefly d s (cores user o.runs o.queries) (source_in o user))
+    ≡ tell reply (briefly d s (cores user o.runs o.queries) (source_in o user))
 still user t o d s reply twins = told-same reply reply _ _ refl (brief-twins d s _ _ _ _ twins.queries twins.filter)
 
 -- the same reply, and nothing moves
@@ -93,7 +93,7 @@ define-told user name source t o s twins sound sound' is =
     let own : bytes_eq (user_of s) user ≡ true = subst (λ u. bytes_eq (user_of s) u ≡ true) is (self-text (user_of s)) in
     let new : Core = record { name = name; source = stored_source source; arrival = moment_or_zero s; runs = [] } in
     let queries : cores user t.runs (t.queries ++ next_query t s name (stored_source source) ∷ [])
-        ≡ cores user o.runs (o.queries ++ next_query (twin t o) s name (stored_source source) ∷ []) =
+    ≡ cores user o.runs (o.queries ++ next_query (twin t o) s name (stored_source source) ∷ []) =
     cores-new user t (next_query t s name (stored_source source)) sound.kept refl own
     ∙ ap (λ cs. cs ++ new ∷ []) twins.queries
     ∙ sym (cores-new user (twin t o) (next_query (twin t o) s name (stored_source source)) sound'.kept refl own) in
@@ -116,16 +116,16 @@ run-one : (user name : List ℕ) (t o : Tables) (s : Session) (q p : QueryRow) �
     → told user t (run_query (Some q) s t) ≡ told user (twin t o) (run_query (Some p) s (twin t o))
 run-one user name t o s q p twins sound sound' is is' same =
     let hits : hits_of q t (moment_or_zero s) ≡ hits_of p (twin t o) (moment_or_zero s) = hits-core q t (moment_or_zero s)
-        ∙ ap (λ c. core_hits t.docs t.notes c (moment_or_zero s)) same ∙ sym (hits-core p (twin t o) (moment_or_zero s)) in
+    ∙ ap (λ c. core_hits t.docs t.notes c (moment_or_zero s)) same ∙ sym (hits-core p (twin t o) (moment_or_zero s)) in
     let ordinal : length (run_moments q.num.0 t.runs) + 1 ≡ length (run_moments p.num.0 o.runs) + 1 =
-        ap (λ (c : Core). length c.runs + 1) same in
+    ap (λ (c : Core). length c.runs + 1) same in
     let queries : cores user (t.runs ++ next_run t q.num (moment_or_zero s) ∷ []) t.queries
-        ≡ cores user (o.runs ++ next_run (twin t o) p.num (moment_or_zero s) ∷ []) o.queries =
+    ≡ cores user (o.runs ++ next_run (twin t o) p.num (moment_or_zero s) ∷ []) o.queries =
     cores-run user name t.runs (next_run t q.num (moment_or_zero s)) 1 t.queries q sound.kept.queries is refl
     ∙ ap (with_run name (moment_or_zero s)) twins.queries
     ∙ sym (cores-run user name o.runs (next_run (twin t o) p.num (moment_or_zero s)) 1 o.queries p sound'.kept.queries is' refl) in
     told-same _ _ _ _ (ap (λ n. Ran n (moment_or_zero s) (hits_of q t (moment_or_zero s))) ordinal
-        ∙ ap (Ran (length (run_moments p.num.0 o.runs) + 1) (moment_or_zero s)) hits) (brief-twins t s _ _ _ _ queries twins.filter)
+    ∙ ap (Ran (length (run_moments p.num.0 o.runs) + 1) (moment_or_zero s)) hits) (brief-twins t s _ _ _ _ queries twins.filter)
 
 run-told : (user name : List ℕ) (t o : Tables) (s : Session) (q p : Option QueryRow) → AreTwins user t o → IsSound t s
     → IsSound (twin t o) s → query_named user name t ≡ q → query_named user name o ≡ p
@@ -165,9 +165,9 @@ list-told user name t o s None None twins own same = answered user t o s _ _ twi
 list-told user name t o s (Some q) (Some p) twins own same =
     let entries : box_of_query q t ≡ box_of_query p (twin t o) = box-same t o q p (core-same (core_of t.runs q) (core_of o.runs p) same) in
     let rules : rules_of_user (user_of s) t ≡ rules_of_user (user_of s) o =
-        subst (λ u. rules_of_user u t ≡ rules_of_user u o) (sym own) (rules-same user t o twins) in
+    subst (λ u. rules_of_user u t ≡ rules_of_user u o) (sym own) (rules-same user t o twins) in
     answered user t o s _ _ twins (ap (λ rules. Listing name (listing_of rules t.docs (box_of_query q t))) rules
-        ∙ ap (λ entries. Listing name (listing_of (rules_of_user (user_of s) o) t.docs entries)) entries)
+    ∙ ap (λ entries. Listing name (listing_of (rules_of_user (user_of s) o) t.docs entries)) entries)
 list-told user name t o s (Some q) None twins own same = absurd (some-core (core_of t.runs q) same)
 list-told user name t o s None (Some p) twins own same = absurd (core-some (core_of o.runs p) same)
 
@@ -177,7 +177,7 @@ lines-told : (user name : List ℕ) (t o : Tables) (s : Session) (q p : Option Q
 lines-told user name t o s None None twins same = answered user t o s _ _ twins refl
 lines-told user name t o s (Some q) (Some p) twins same =
     answered user t o s _ _ twins (ap (Explained name)
-        (lines-core q t.runs ∙ ap core_lines (core-same (core_of t.runs q) (core_of o.runs p) same) ∙ sym (lines-core p o.runs)))
+    (lines-core q t.runs ∙ ap core_lines (core-same (core_of t.runs q) (core_of o.runs p) same) ∙ sym (lines-core p o.runs)))
 lines-told user name t o s (Some q) None twins same = absurd (some-core (core_of t.runs q) same)
 lines-told user name t o s None (Some p) twins same = absurd (core-some (core_of o.runs p) same)
 
@@ -196,7 +196,7 @@ wake-told : (user name : List ℕ) (t o : Tables) (s : Session) (q p : Option Qu
 wake-told user name t o s None None twins same = answered user t o s _ _ twins refl
 wake-told user name t o s (Some q) (Some p) twins same =
     answered user t o s _ _ twins
-      (ap (Woken name) (wake-same t o q p (moment_or_zero s) (core-same (core_of t.runs q) (core_of o.runs p) same)))
+    (ap (Woken name) (wake-same t o q p (moment_or_zero s) (core-same (core_of t.runs q) (core_of o.runs p) same)))
 wake-told user name t o s (Some q) None twins same = absurd (some-core (core_of t.runs q) same)
 wake-told user name t o s None (Some p) twins same = absurd (core-some (core_of o.runs p) same)
 
@@ -207,13 +207,13 @@ digest-told user name ordinal t o s None None twins same = answered user t o s _
 digest-told user name ordinal t o s (Some q) (Some p) twins same =
     answered user t o s _ _ twins
     (ap (λ entries. Digest name ordinal (digest_lines name ordinal (digested t.docs (entries_in_run ordinal entries))))
-      (box-same t o q p (core-same (core_of t.runs q) (core_of o.runs p) same)))
+    (box-same t o q p (core-same (core_of t.runs q) (core_of o.runs p) same)))
 digest-told user name ordinal t o s (Some q) None twins same = absurd (some-core (core_of t.runs q) same)
 digest-told user name ordinal t o s None (Some p) twins same = absurd (core-some (core_of o.runs p) same)
 
 docs-told : (user : List ℕ) (t o : Tables) (s : Session) (reply : Reply) (docs : List Doc) → AreTwins user t o
     → told user t (record { reply = reply; session = s; change = some_docs docs })
-        ≡ told user (twin t o) (record { reply = reply; session = s; change = some_docs docs })
+    ≡ told user (twin t o) (record { reply = reply; session = s; change = some_docs docs })
 docs-told user t o s reply [] twins = still user t o t s reply twins
 docs-told user t o s reply (doc ∷ docs) twins = still user t o (after t (Docs (doc ∷ docs))) s reply twins
 
@@ -222,9 +222,9 @@ filter-told : (user source : List ℕ) (t o : Tables) (s : Session) → AreTwins
 filter-told user source t o s twins is =
     let own : bytes_eq (user_of s) user ≡ true = subst (λ u. bytes_eq (user_of s) u ≡ true) is (self-text (user_of s)) in
     let last : option_map (λ filter. filter.source) (last_filter user (t.filters ++ next_filter t s source ∷ []))
-        ≡ option_map (λ filter. filter.source) (last_filter user (o.filters ++ next_filter (twin t o) s source ∷ [])) =
+    ≡ option_map (λ filter. filter.source) (last_filter user (o.filters ++ next_filter (twin t o) s source ∷ [])) =
     ap (option_map (λ filter. filter.source)) (filter-own user t.filters (next_filter t s source) own)
-      ∙ sym (ap (option_map (λ filter. filter.source)) (filter-own user o.filters (next_filter (twin t o) s source) own)) in
+    ∙ sym (ap (option_map (λ filter. filter.source)) (filter-own user o.filters (next_filter (twin t o) s source) own)) in
     told-same _ _ _ _ refl (brief-twins t s _ _ _ _ twins.queries last)
 
 snapshot-same : (truth : Truth) (t o : Tables) (second : ℤ) (docs : List Doc) → IsOfTheSecond truth
@@ -238,7 +238,7 @@ ask-told : (user source : List ℕ) (t o : Tables) (s : Session) (second : Optio
 ask-told user source t o s None twins = answered user t o s _ _ twins refl
 ask-told user source t o s (Some second) twins =
     answered user t o s _ _ twins (ap (λ docs. Asked second (map (λ doc. doc.num) docs))
-        (snapshot-same (Holds.truth_of (condition_in source)) t o second t.docs (of-the-second (condition_in source))))
+    (snapshot-same (Holds.truth_of (condition_in source)) t o second t.docs (of-the-second (condition_in source))))
 
 no-true : false ≡ true → ⊥
 no-true e = cc
@@ -248,7 +248,7 @@ queries-same : (user : List ℕ) (t o : Tables) → AreTwins user t o
     → map (query_line t) (owned_queries user t) ≡ map (query_line (twin t o)) (owned_queries user (twin t o))
 queries-same user t o twins =
     each-line-core t (owned_queries user t) ∙ ap (map (core_line t.docs t.notes)) twins.queries
-      ∙ sym (each-line-core (twin t o) (owned_queries user (twin t o)))
+    ∙ sym (each-line-core (twin t o) (owned_queries user (twin t o)))
 
 -- a look-up, once there is a moment
 lookup-told : (lookup : Lookup) (user : List ℕ) (s : Session) (t o : Tables) (m : ℤ) → s.moment ≡ Some m → user_of s ≡ user
@@ -259,10 +259,10 @@ lookup-told (ListNotes num) user s t o m at own twins = answered user t o s _ _ 
 lookup-told ListQueries user s t o m at own twins =
     answered user t o s _ _ twins
     (ap (Found UserQueries) (subst (λ u. map (query_line t) (owned_queries u t) ≡ map (query_line (twin t o)) (owned_queries u (twin t o)))
-        (sym own) (queries-same user t o twins)))
+    (sym own) (queries-same user t o twins)))
 lookup-told Count user s t o m at own twins =
     let last : last_moment s t ≡ last_moment s (twin t o) = ap (λ x. option_or x (greatest_moment t)) at
-        ∙ sym (ap (λ x. option_or x (greatest_moment (twin t o))) at) in
+    ∙ sym (ap (λ x. option_or x (greatest_moment (twin t o))) at) in
     answered user t o s _ _ twins (ap (λ moment. Found (Counts (length t.docs) (length t.notes) (or_zero moment)) []) last)
 
 -- what is accepted
@@ -280,26 +280,26 @@ accepted-told (Define name source) user s t o m at
     by twins sound sound' = define-told user name source t o s twins sound sound' (user-is user s by)
 accepted-told (Run name) user s t o m at by twins sound sound' =
     subst (λ u. told user t (run_query (query_named u name t) s t) ≡ told user (twin t o) (run_query (query_named u name o) s (twin t o)))
-      (sym (user-is user s by)) (run-told user name t o s (query_named user name t) (query_named user name o) twins sound sound' refl refl
-        (found-same user name t o twins))
+    (sym (user-is user s by)) (run-told user name t o s (query_named user name t) (query_named user name o) twins sound sound' refl refl
+    (found-same user name t o twins))
 accepted-told (BoxOf name) user s t o m at by twins sound sound' =
     box-told user name t o s (query_named (user_of s) name t) (query_named (user_of s) name o) twins
-      (found-same (user_of s) name t o (own-twins user s t o by twins))
+    (found-same (user_of s) name t o (own-twins user s t o by twins))
 accepted-told (ListOf name) user s t o m at by twins sound sound' =
     list-told user name t o s (query_named (user_of s) name t) (query_named (user_of s) name o) twins (user-is user s by)
-      (found-same (user_of s) name t o (own-twins user s t o by twins))
+    (found-same (user_of s) name t o (own-twins user s t o by twins))
 accepted-told (Filter block) user s t o m at by twins sound sound' = filter-told user (block_text block) t o s twins (user-is user s by)
 accepted-told (Explain name) user s t o m at by twins sound sound' =
     lines-told user name t o s (query_named (user_of s) name t) (query_named (user_of s) name o) twins
-      (found-same (user_of s) name t o (own-twins user s t o by twins))
+    (found-same (user_of s) name t o (own-twins user s t o by twins))
 accepted-told (Ask moment source) user s t o m at by twins sound sound' = ask-told user source t o s (moment_of moment) twins
 accepted-told (Wake name) user s t o m at by twins sound sound' =
     wake-told user name t o s (query_named (user_of s) name t) (query_named (user_of s) name o) twins
-      (found-same (user_of s) name t o (own-twins user s t o by twins))
+    (found-same (user_of s) name t o (own-twins user s t o by twins))
 accepted-told (ScoresOf kind) user s t o m at by twins sound sound' = still user t o t s _ twins
 accepted-told (DigestOf name ordinal) user s t o m at by twins sound sound' =
     digest-told user name ordinal t o s (query_named (user_of s) name t) (query_named (user_of s) name o) twins
-      (found-same (user_of s) name t o (own-twins user s t o by twins))
+    (found-same (user_of s) name t o (own-twins user s t o by twins))
 accepted-told (Find lookup) user s t o m at by twins sound sound' = lookup-told lookup user s t o m at (user-is user s by) twins
 accepted-told (Bad refusal) user s t o m at by twins sound sound' = still user t o t s _ twins
 
@@ -307,7 +307,7 @@ accepted-told (Bad refusal) user s t o m at by twins sound sound' = still user t
 pub told-alike : (c : Command) (user : List ℕ) (s : Session) (t o : Tables) (m : ℤ) → s.moment ≡ Some m → concerns user s c ≡ true
     → AreTwins user t o → IsSound t s → IsSound (twin t o) s
     → IsShared (verdict c s t)
-        ⊎ (IsShared (verdict c s (twin t o)) ⊎ (told user t (answer_of c s t) ≡ told user (twin t o) (answer_of c s (twin t o))))
+    ⊎ (IsShared (verdict c s (twin t o)) ⊎ (told user t (answer_of c s t) ≡ told user (twin t o) (answer_of c s (twin t o))))
 told-alike c user s t o m at by twins sound sound' = elim (verdict-alike c user s t o m at by twins) [
   | inl shared ↦ inl shared
   | inr other ↦ elim other [

@@ -80,9 +80,9 @@ put_in-each : (P : Hit → Type 0) (hit : Hit) (hits : List Hit) → P hit → E
 put_in-each P hit [] this each = (this, tt)
 put_in-each P hit (other ∷ hits) this each =
     elim (is_before hit other) as (λ b. Each P (if b then hit ∷ other ∷ hits else other ∷ put_in hit hits)) [
-  | true ↦ (this, each)
-  | false ↦ (each.0, put_in-each P hit hits this each.1)
-]
+      | true ↦ (this, each)
+      | false ↦ (each.0, put_in-each P hit hits this each.1)
+    ]
 
 in_order-each : (P : Hit → Type 0) (hits : List Hit) → Each P hits → Each P (hits_in_order hits)
 in_order-each P [] each = tt
@@ -93,9 +93,10 @@ follow-all : (hit other : Hit) (hits : List Hit) → is_before hit other ≡ tru
     → Each (Follows hit) hits
 unfolding before
 follow-all hit other [] lt others each = tt
-follow-all hit other (x ∷ hits) lt others each =
-    ((before-trans hit.first hit.doc.0 other.first other.doc.0 x.first x.doc.0 lt each.0.0, others.0),
-      follow-all hit other hits lt others.1 each.1)
+follow-all hit other (x ∷ hits) lt others each = (
+  (before-trans hit.first hit.doc.0 other.first other.doc.0 x.first x.doc.0 lt each.0.0, others.0),
+  follow-all hit other hits lt others.1 each.1,
+)
 
 put_in-ordered : (hit : Hit) (hits : List Hit) → Each (AreOther hit) hits → Ordered hits → Ordered (put_in hit hits)
 unfolding before
@@ -104,8 +105,11 @@ put_in-ordered hit (other ∷ hits) others order = go (is_before hit other) refl
   go : (b : Bool) → is_before hit other ≡ b → Ordered (put_in hit hits)
       → Ordered (if b then hit ∷ other ∷ hits else other ∷ put_in hit hits)
   go true e rest = (((e, others.0), follow-all hit other hits e others.1 order.0), order)
-  go false e rest = (put_in-each (Follows other) hit hits
-        (before-total hit.first hit.doc.0 other.first other.doc.0 e others.0, other-turn hit other others.0) order.0, rest)
+  go false e rest = (
+    put_in-each (Follows other) hit hits
+        (before-total hit.first hit.doc.0 other.first other.doc.0 e others.0, other-turn hit other others.0) order.0,
+    rest,
+  )
 
 in_order-ordered : (hits : List Hit) → Others hits → Ordered (hits_in_order hits)
 in_order-ordered [] others = tt
@@ -134,8 +138,8 @@ found-others second k (doc ∷ docs) placed = go (second doc) (found-others seco
   later : Each (λ other. (f : ℤ) → second other ≡ Some f → AreOther (hit_at doc f) (hit_at other f)) docs
   later = each-map (λ other. suc k ≤ other.num.0) (λ other. (f : ℤ) → second other ≡ Some f → AreOther (hit_at doc f) (hit_at other f)) docs
       (λ other le f e. apart doc.num.0 other.num.0 placed.0 le) (placed-from (λ doc. doc.num.0) (suc k) docs placed.1) where
-    apart : (a b : ℕ) → a ≡ k → suc k ≤ b → (b == a) ≡ false
-    apart a b e le = grind arith
+        apart : (a b : ℕ) → a ≡ k → suc k ≤ b → (b == a) ≡ false
+        apart a b e le = grind arith
 
   go : (found : Option ℤ) → Others (filter_map (λ doc. hit_of doc (second doc)) docs)
       → Others (cons_option (hit_of doc found) (filter_map (λ doc. hit_of doc (second doc)) docs))
@@ -168,7 +172,7 @@ module _ (truth : Truth) (tables : Tables) (start t : ℤ) where
 
     given : (g : ℤ) → first_second truth tables doc start t ≡ Some g → doc.arrival ≤ℤ g
     given g is = le-from doc.arrival g (and_parts (int_le doc.arrival g) (truth tables doc g)
-          (first_from-holds (is_given truth tables doc) (int_gap start t) start g is)).0
+        (first_from-holds (is_given truth tables doc) (int_gap start t) start g is)).0
 
     made : (g : ℤ) → first_second truth tables doc start t ≡ Some g → tau ≤ℤ g → g ≡ f → Fresh tau doc f
     made g is from same = subst (Fresh tau doc) same
@@ -190,9 +194,9 @@ module _ (truth : Truth) (tables : Tables) (start t : ℤ) where
       → Each (λ hit. IsOld tau hit.doc.0) (union_until truth tables start tau)
   union-old tau from to arrived =
       in_order-each (λ hit. IsOld tau hit.doc.0)
-        (filter_map (λ doc. hit_of doc (at_least start (first_second truth tables doc start tau))) tables.docs)
+      (filter_map (λ doc. hit_of doc (at_least start (first_second truth tables doc start tau))) tables.docs)
       (found-each (λ hit. IsOld tau hit.doc.0) (λ doc. at_least start (first_second truth tables doc start tau)) tables.docs (each-in
-          (λ doc. (f : ℤ) → at_least start (first_second truth tables doc start tau) ≡ Some f → IsOld tau doc.num.0) tables.docs old))
+      (λ doc. (f : ℤ) → at_least start (first_second truth tables doc start tau) ≡ Some f → IsOld tau doc.num.0) tables.docs old))
     where
       found : (doc : Doc) (o : Option ℤ) → first_second truth tables doc start tau ≡ o → (g : ℤ) → at_least start o ≡ Some g
           → (h : ℤ) × (first_second truth tables doc start tau ≡ Some h)
@@ -205,12 +209,12 @@ module _ (truth : Truth) (tables : Tables) (start t : ℤ) where
           → IsOld tau doc.num.0
       old doc has g e other has' same f is =
           let one : other ≡ doc =
-              placed-same (λ doc. doc.num.0) tables.docs other doc (docs-placed 1 (pos 0) tables.docs arrived) has' has same in
+          placed-same (λ doc. doc.num.0) tables.docs other doc (docs-placed 1 (pos 0) tables.docs arrived) has' has same in
           let early = found doc (first_second truth tables doc start tau) refl g e in
           let more : first_second truth tables doc start t ≡ option_or (first_second truth tables doc start tau)
-              (least_second (is_given truth tables doc) tau t) = least_second-more (is_given truth tables doc) start tau t from to in
+          (least_second (is_given truth tables doc) tau t) = least_second-more (is_given truth tables doc) start tau t from to in
           let both : Some early.0 ≡ Some f = sym (more ∙ ap (λ o. option_or o (least_second (is_given truth tables doc) tau t)) early.1)
-              ∙ sym (ap (λ d. first_second truth tables d start t) one) ∙ is in
+          ∙ sym (ap (λ d. first_second truth tables d start t) one) ∙ is in
           subst (λ s. s <ℤ tau) (some-same early.0 f both) (least_second-within (is_given truth tables doc) start tau early.0 early.1).1
 
   -- so is each entry of the box
@@ -220,7 +224,7 @@ module _ (truth : Truth) (tables : Tables) (start t : ℤ) where
   entries-old tau moments hits run (m ∷ ms) each =
       each-append (λ entry. IsOld tau entry.doc.0) (entries_of moments hits run) (entries_from moments hits (run + 1) ms)
       (each-mapped (λ entry. IsOld tau entry.doc.0) (entry_at run) (filter (λ hit. run_of hit.first moments == run) hits)
-        (each-filter (λ hit. IsOld tau hit.doc.0) (λ hit. run_of hit.first moments == run) hits each))
+      (each-filter (λ hit. IsOld tau hit.doc.0) (λ hit. run_of hit.first moments == run) hits each))
       (entries-old tau moments hits (run + 1) ms each)
 
   -- the query picked no document before that it hasn't given before
@@ -231,11 +235,11 @@ module _ (truth : Truth) (tables : Tables) (start t : ℤ) where
       let tau = covered start query tables.runs in
       let from : start ≤ℤ tau = rising-le start (run_moments query tables.runs) rising in
       let all : Each (λ entry. IsOld tau entry.doc.0) (box_of truth tables start query) = entries-old tau (run_moments query tables.runs)
-          (union_until truth tables start tau) 1 (run_moments query tables.runs) (union-old tau from le arrived) in
+      (union_until truth tables start tau) 1 (run_moments query tables.runs) (union-old tau from le arrived) in
       let given : Each (λ entry. IsOld tau entry.doc.0) (delivered query tables) =
-          subst (Each (λ entry. IsOld tau entry.doc.0)) (sym box) all in
+      subst (Each (λ entry. IsOld tau entry.doc.0)) (sym box) all in
       each-passed (λ pick. IsOld tau pick.doc.0) (λ pick. pick.query.0 == query)
-        tables.picks (each-unmapped (λ entry. IsOld tau entry.doc.0) (picked tables.runs) (picks_of query tables.picks) given)
+      tables.picks (each-unmapped (λ entry. IsOld tau entry.doc.0) (picked tables.runs) (picks_of query tables.picks) given)
 
   -- none of some picks is the query's of this document
   abbrev Unpicked : ℕ → List Pick → ℕ → Type 0
@@ -246,7 +250,7 @@ module _ (truth : Truth) (tables : Tables) (start t : ℤ) where
       → Unpicked query picks doc.num.0
   unpicked-fresh query tau picks doc f old has fresh =
       each-map (λ pick. (pick.query.0 == query) ≡ true → IsOld tau pick.doc.0)
-        (λ pick. ((pick.query.0 == query) && (pick.doc.0 == doc.num.0)) ≡ false) picks (λ pick o. one pick o) old
+      (λ pick. ((pick.query.0 == query) && (pick.doc.0 == doc.num.0)) ≡ false) picks (λ pick o. one pick o) old
     where
       late : (f : ℤ) → tau ≤ℤ f → f <ℤ tau → ⊥
       late f from lt = omega (arith, ints)
@@ -274,7 +278,7 @@ module _ (truth : Truth) (tables : Tables) (start t : ℤ) where
   fresh-may query tau arrived old =
       in_order-each (MayPick query) (filter_map (λ doc. hit_of doc (at_least tau (first_second truth tables doc start t))) tables.docs)
       (found-each (MayPick query) (λ doc. at_least tau (first_second truth tables doc start t)) tables.docs (each-in (λ doc. (f : ℤ)
-            → at_least tau (first_second truth tables doc start t) ≡ Some f → MayPick query (hit_at doc f)) tables.docs may))
+      → at_least tau (first_second truth tables doc start t) ≡ Some f → MayPick query (hit_at doc f)) tables.docs may))
     where
       may : (doc : Doc) → In doc tables.docs → (f : ℤ) → at_least tau (first_second truth tables doc start t) ≡ Some f
           → MayPick query (hit_at doc f)
@@ -292,7 +296,7 @@ fresh-ordered : (truth : Truth) (tables : Tables) (start tau t : ℤ) → Arrive
     → Ordered (fresh_in truth tables start tau t)
 fresh-ordered truth tables start tau t arrived =
     in_order-ordered (filter_map (λ doc. hit_of doc (at_least tau (first_second truth tables doc start t))) tables.docs)
-      (found-others (λ doc. at_least tau (first_second truth tables doc start t)) 1 tables.docs (docs-placed 1 (pos 0) tables.docs arrived))
+    (found-others (λ doc. at_least tau (first_second truth tables doc start t)) 1 tables.docs (docs-placed 1 (pos 0) tables.docs arrived))
 
 -- the picks stand one after another
 abbrev Behind : ℕ → List Hit → Option Pick → Type 0
@@ -319,15 +323,15 @@ module _ (truth : Truth) (tables : Tables) (start t : ℤ) (run : RunRow) (runs 
   picks-run : row_at run.num runs ≡ Some run → run.query.0 ≡ query.0 → run.moment ≡ t
       → (earlier : List Pick) (num : ℕ) (before : Option Pick) (hits : List Hit)
       → Each (MayPick truth tables start t query.0) hits → Each (λ hit. Unpicked truth tables start t query.0 earlier hit.doc.0) hits
-          → Ordered hits → Behind run.num hits before
+      → Ordered hits → Behind run.num hits before
       → picks_stand runs tables.docs earlier num before (pick_rows num query run.num hits) ≡ true
   picks-run row of at earlier num before [] may once order behind = refl
   picks-run row of at earlier num before (hit ∷ hits) may once order behind =
       let pick = pick_of num query run.num hit in
       let more : Each (λ other. Unpicked truth tables start t query.0 (earlier ++ pick ∷ []) other.doc.0) hits =
-          onward hits once.1 order.0 in
+      onward hits once.1 order.0 in
       let next : Behind run.num hits (Some pick) =
-          inr (refl, each-map (Follows hit) (λ other. is_before hit other ≡ true) hits (λ other f. f.0) order.0) in
+      inr (refl, each-map (Follows hit) (λ other. is_before hit other ≡ true) hits (λ other f. f.0) order.0) in
       and_from _ _ (and_from _ _ (and_from _ _ (and_from _ _ (same-num num) stands) new) (comes num query run.num hit hits before behind))
       (picks-run row of at (earlier ++ pick ∷ []) (num + 1) (Some pick) hits may.1 more order.1 next)
     where
@@ -335,23 +339,24 @@ module _ (truth : Truth) (tables : Tables) (start t : ℤ) (run : RunRow) (runs 
           → Each (Follows hit) others
           → Each (λ other. Unpicked truth tables start t query.0 (earlier ++ pick_of num query run.num hit ∷ []) other.doc.0) others
       onward [] each follow = tt
-      onward (other ∷ others) each follow =
-          (each-append (λ pick. ((pick.query.0 == query.0) && (pick.doc.0 == other.doc.0)) ≡ false) earlier (pick_of num query run.num hit
-                ∷ []) each.0 (differs (query.0 == query.0) (hit.doc.0 == other.doc.0) (turn hit.doc.0 other.doc.0 follow.0.1), tt),
-              onward others each.1 follow.1) where
-            turn : (a b : ℕ) → (b == a) ≡ false → (a == b) ≡ false
-            turn a b e = grind arith
+      onward (other ∷ others) each follow = (
+        each-append (λ pick. ((pick.query.0 == query.0) && (pick.doc.0 == other.doc.0)) ≡ false) earlier (pick_of num query run.num hit
+            ∷ []) each.0 (differs (query.0 == query.0) (hit.doc.0 == other.doc.0) (turn hit.doc.0 other.doc.0 follow.0.1), tt),
+        onward others each.1 follow.1,
+      ) where
+        turn : (a b : ℕ) → (b == a) ≡ false → (a == b) ≡ false
+        turn a b e = grind arith
 
-            differs : (a b : Bool) → b ≡ false → (a && b) ≡ false
-            differs true b e = e
-            differs false b e = refl
+        differs : (a b : Bool) → b ≡ false → (a && b) ≡ false
+        differs true b e = e
+        differs false b e = refl
 
       stands : is_picked (pick_of num query run.num hit) (row_at run.num runs) (row_at hit.doc.0 tables.docs) ≡ true
       stands = rw (row, may.0.row) (and_from _ _
-            (and_from _ _ (is run.query.0 query.0 of) (lt-yes hit.first run.moment (subst (λ z. hit.first <ℤ z) (sym at) may.0.below)))
-            (le-yes may.0.doc.arrival hit.first may.0.there)) where
-        is : (a b : ℕ) → a ≡ b → (a == b) ≡ true
-        is a b e = grind arith
+          (and_from _ _ (is run.query.0 query.0 of) (lt-yes hit.first run.moment (subst (λ z. hit.first <ℤ z) (sym at) may.0.below)))
+          (le-yes may.0.doc.arrival hit.first may.0.there)) where
+            is : (a b : ℕ) → a ≡ b → (a == b) ≡ true
+            is a b e = grind arith
 
       new : not (list_any (λ other. (other.query.0 == query.0) && (other.doc.0 == hit.doc.0)) earlier) ≡ true
       new = ap not (none-any (λ other. (other.query.0 == query.0) && (other.doc.0 == hit.doc.0)) earlier once.0)
@@ -369,7 +374,7 @@ last-behind runs picks hits from each = go (last_row picks) refl where
   go None is = tt
   go (Some pick) is =
       let lt = runs-below 1 pick.query.0 pick.run runs from
-          (each-row (λ pick. HasRun pick.run pick.query.0 runs) picks (length picks) pick each is) in
+      (each-row (λ pick. HasRun pick.run pick.query.0 runs) picks (length picks) pick each is) in
       inl (omega (arith, lt))
 
 -- the last of moments that are all at most this one is at most it
@@ -383,38 +388,38 @@ pub run-fits : (truth : QueryRow → Truth) (start : QueryRow → ℤ) (t : ℤ)
     → fits tables (run_change (truth query) (start query) tables query.num t) ≡ true
 run-fits truth start t tables query kept
     by positive last has = and_from _ _ (and_from _ _ (and_from _ _ (same-num (length tables.runs + 1)) follows) defined) picks where
-  run : RunRow
-  run = next_run tables query.num t
+      run : RunRow
+      run = next_run tables query.num t
 
-  starts : (query.arrival ≤ℤ t) × (start query ≤ℤ t)
-  starts = in-each (λ query. (query.arrival ≤ℤ t) × (start query ≤ℤ t)) tables.queries query has by.queries
+      starts : (query.arrival ≤ℤ t) × (start query ≤ℤ t)
+      starts = in-each (λ query. (query.arrival ≤ℤ t) × (start query ≤ℤ t)) tables.queries query has by.queries
 
-  follows : may_follow (low_of (λ run. run.moment) tables.runs) t ≡ true
-  follows = and_from _ _ (le-yes (low_of (λ run. run.moment) tables.runs) t (low-by (λ run. run.moment) t tables.runs positive by.runs))
-      (le-yes t (pos LAST_MOMENT) last)
+      follows : may_follow (low_of (λ run. run.moment) tables.runs) t ≡ true
+      follows = and_from _ _ (le-yes (low_of (λ run. run.moment) tables.runs) t (low-by (λ run. run.moment) t tables.runs positive by.runs))
+          (le-yes t (pos LAST_MOMENT) last)
 
-  defined : was_defined tables.queries query.num.0 t ≡ true
-  defined = rw (placed-row (λ query. query.num.0) tables.queries query (queries-placed 1 tables.queries kept.queries) has)
-      (le-yes query.arrival t starts.0)
+      defined : was_defined tables.queries query.num.0 t ≡ true
+      defined = rw (placed-row (λ query. query.num.0) tables.queries query (queries-placed 1 tables.queries kept.queries) has)
+          (le-yes query.arrival t starts.0)
 
-  this : IsKeptQuery truth start tables query
-  this = in-each (IsKeptQuery truth start tables) tables.queries query has kept.each
+      this : IsKeptQuery truth start tables query
+      this = in-each (IsKeptQuery truth start tables) tables.queries query has kept.each
 
-  picks : picks_stand (tables.runs ++ run ∷ []) tables.docs tables.picks (length tables.picks + 1) (last_row tables.picks)
-      (pick_rows (length tables.picks + 1) query.num run.num (run_hits (truth query) (start query) tables query.num.0 t)) ≡ true
-  picks =
-      let tau = covered (start query) query.num.0 tables.runs in
-      let hits = fresh_in (truth query) tables (start query) tau t in
-      let old = picks-old (truth query) tables (start query) t query.num.0 kept.docs this.rising le this.box in
-      let may = fresh-may (truth query) tables (start query) t query.num.0 tau kept.docs old in
-      picks-run (truth query) tables (start query) t run (tables.runs ++ run ∷ []) query.num (row-last tables.runs run) refl refl
-        tables.picks (length tables.picks + 1) (last_row tables.picks) hits may
-      (each-map (MayPick (truth query) tables (start query) t query.num.0)
-        (λ hit. Unpicked (truth query) tables (start query) t query.num.0 tables.picks hit.doc.0) hits (λ hit m. m.once) may)
-      (fresh-ordered (truth query) tables (start query) tau t kept.docs)
-      (last-behind tables.runs tables.picks hits kept.runs kept.picks)
-    where
-      le : covered (start query) query.num.0 tables.runs ≤ℤ t
-      le = last-by (start query) t (run_moments query.num.0 tables.runs)
-          starts.1 (each-mapped (λ m. m ≤ℤ t) (λ run. run.moment) (runs_of query.num.0 tables.runs)
-            (each-filter (λ run. run.moment ≤ℤ t) (λ run. run.query.0 == query.num.0) tables.runs by.runs))
+      picks : picks_stand (tables.runs ++ run ∷ []) tables.docs tables.picks (length tables.picks + 1) (last_row tables.picks)
+          (pick_rows (length tables.picks + 1) query.num run.num (run_hits (truth query) (start query) tables query.num.0 t)) ≡ true
+      picks =
+          let tau = covered (start query) query.num.0 tables.runs in
+          let hits = fresh_in (truth query) tables (start query) tau t in
+          let old = picks-old (truth query) tables (start query) t query.num.0 kept.docs this.rising le this.box in
+          let may = fresh-may (truth query) tables (start query) t query.num.0 tau kept.docs old in
+          picks-run (truth query) tables (start query) t run (tables.runs ++ run ∷ []) query.num (row-last tables.runs run) refl refl
+          tables.picks (length tables.picks + 1) (last_row tables.picks) hits may
+          (each-map (MayPick (truth query) tables (start query) t query.num.0)
+          (λ hit. Unpicked (truth query) tables (start query) t query.num.0 tables.picks hit.doc.0) hits (λ hit m. m.once) may)
+          (fresh-ordered (truth query) tables (start query) tau t kept.docs)
+          (last-behind tables.runs tables.picks hits kept.runs kept.picks)
+        where
+          le : covered (start query) query.num.0 tables.runs ≤ℤ t
+          le = last-by (start query) t (run_moments query.num.0 tables.runs)
+              starts.1 (each-mapped (λ m. m ≤ℤ t) (λ run. run.moment) (runs_of query.num.0 tables.runs)
+              (each-filter (λ run. run.moment ≤ℤ t) (λ run. run.query.0 == query.num.0) tables.runs by.runs))

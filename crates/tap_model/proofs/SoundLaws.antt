@@ -27,24 +27,36 @@ use Rattle.tap_base.specs.Numbers.{IsMoment}
 
 -- a sound point is sound for every command
 pub sound-for : (command : Command) (tables : Tables) (session : Session) → IsSound tables session → IsSoundFor command tables session
-sound-for command tables session sound = record { kept = λ asks. sound.kept; now = sound.now; formed = sound.formed;
-      sources = sound.sources; rules = sound.rules; user = sound.user }
+sound-for command tables session sound = record {
+  kept = λ asks. sound.kept;
+  now = sound.now;
+  formed = sound.formed;
+  sources = sound.sources;
+  rules = sound.rules;
+  user = sound.user;
+}
 
 -- a point that is sound for a command that looks at deliveries is sound
 pub sound-asked : (command : Command) (tables : Tables) (session : Session) → asks_deliveries command ≡ true
     → IsSoundFor command tables session → IsSound tables session
-sound-asked command tables session asks sound = record { kept = sound.kept asks; now = sound.now; formed = sound.formed;
-      sources = sound.sources; rules = sound.rules; user = sound.user }
+sound-asked command tables session asks sound = record {
+  kept = sound.kept asks;
+  now = sound.now;
+  formed = sound.formed;
+  sources = sound.sources;
+  rules = sound.rules;
+  user = sound.user;
+}
 
 -- the rows stand in order after a command
 answer-formed : (command : Command) (session : Session) (tables : Tables) → IsSoundFor command tables session
     → is_well_formed (tables_after (answer_of command session tables).change tables) ≡ true
 answer-formed command session tables sound =
     go (answer_of command session tables).change (λ change e. accepted_fits tables session command change sound e) where
-  go : (o : Option Change) → ((change : Change) → o ≡ Some change → fits tables change ≡ true)
-      → is_well_formed (tables_after o tables) ≡ true
-  go None fit = sound.formed
-  go (Some change) fit = fits-is tables change sound.formed ∙ fit change refl
+      go : (o : Option Change) → ((change : Change) → o ≡ Some change → fits tables change ≡ true)
+          → is_well_formed (tables_after o tables) ≡ true
+      go None fit = sound.formed
+      go (Some change) fit = fits-is tables change sound.formed ∙ fit change refl
 
 -- what an answer leaves is sound for a command that the point before was sound for
 answer-sound : (command next : Command) (session : Session) (tables : Tables) → IsSoundFor command tables session
@@ -54,8 +66,14 @@ answer-sound command next session tables sound for-next =
     let before : Held (asks_deliveries next ≡ true) tables session = record { kept = for-next.kept; now = for-next.now } in
     let held = answer-held command session tables before in
     let read = answer-read command session tables (record { sources = sound.sources; rules = sound.rules; user = sound.user }) in
-    record { kept = held.kept; now = held.now; formed = answer-formed command session tables sound; sources = read.sources;
-        rules = read.rules; user = read.user }
+    record {
+      kept = held.kept;
+      now = held.now;
+      formed = answer-formed command session tables sound;
+      sources = read.sources;
+      rules = read.rules;
+      user = read.user;
+    }
 
 -- so does each step of a story
 pub step-sound-for : (tables : Tables) (session : Session) (command : Command) (reply : Reply) (tables' : Tables) (session' : Session)
@@ -71,7 +89,7 @@ pub step-sound : (tables : Tables) (session : Session) (command : Command) (repl
     → StoryStep tables session command reply tables' session' → IsSound tables session → IsSound tables' session'
 step-sound tables session command reply tables' session' step sound =
     sound-asked (Run []) tables' session' refl (step-sound-for tables session command reply tables' session' (Run []) step
-        (sound-for command tables session sound) (sound-for (Run []) tables session sound))
+    (sound-for command tables session sound) (sound-for (Run []) tables session sound))
 
 -- the present moment is one
 pub moment_or_zero-moment : (tables : Tables) (session : Session) → IsSound tables session → IsMoment (moment_or_zero session)

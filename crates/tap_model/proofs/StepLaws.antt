@@ -70,7 +70,7 @@ giver-told : (user : List ℕ) (c : Command) (m : Option ℤ) (u v : Option (Lis
 giver-told user c m u v t same = elim (by-giver c m u v same) [
   | inl e ↦ ap (λ u. told user t (answer_of c (session_by m u) t)) e
   | inr free ↦ ap (λ r. told user t (answer_by r c (session_by m u) t)) (free-verdict c m u v t free)
-    ∙ free-told user (verdict c (session_by m v) t) c m u v t free
+      ∙ free-told user (verdict c (session_by m v) t) c m u v t free
 ]
 
 -- two verdicts of which one is shared, or what both tell is the same
@@ -93,8 +93,8 @@ ends-same user c s s' t t' m at by same giver-is sound sound' =
     let notes : t'.notes ≡ t.notes = sym (ap (λ (b : Brief). b.notes) same) in
     let moment : s'.moment ≡ s.moment = sym (ap (λ (b : Brief). b.moment) same) in
     let tables : t' ≡ twin t t' =
-        ap (λ d. record { docs = d; notes = t'.notes; queries = t'.queries; runs = t'.runs; picks = t'.picks; filters = t'.filters }) docs
-        ∙ ap (λ n. twin (record t { notes = n }) t') notes in
+    ap (λ d. record { docs = d; notes = t'.notes; queries = t'.queries; runs = t'.runs; picks = t'.picks; filters = t'.filters }) docs
+    ∙ ap (λ n. twin (record t { notes = n }) t') notes in
     let session : s' ≡ session_by s.moment s'.user = ap (λ m. session_by m s'.user) moment in
     let kept : IsKept query_truth start_of (twin t t') = subst (λ t'. IsKept query_truth start_of t') tables sound'.kept in
     let now : IsNow s.moment (twin t t') = subst (λ m. IsNow m (twin t t')) moment (subst (λ t'. IsNow s'.moment t') tables sound'.now) in
@@ -109,7 +109,7 @@ ends-same user c s s' t t' m at by same giver-is sound sound' =
     let twins : AreTwins user t t' = record { queries = ap (λ (b : Brief). b.queries) same; filter = ap (λ (b : Brief). b.filter) same } in
     let gives : giver (session_by s.moment s.user) c ≡ giver (session_by s.moment s'.user) c = giver-is ∙ ap (λ s. giver s c) session in
     let ends : Ends user c s t (session_by s.moment s'.user) (twin t t') =
-        ends-giver user c s t s.moment s.user s'.user (twin t t') gives (told-alike c user s t t' m at by twins sound there) in
+    ends-giver user c s t s.moment s.user s'.user (twin t t') gives (told-alike c user s t t' m at by twins sound there) in
     subst (λ s'. Ends user c s t s' t') (sym session) (subst (λ t'. Ends user c s t (session_by s.moment s'.user) t') (sym tables) ends)
 
 -- a shared verdict is a shared reply
@@ -142,7 +142,7 @@ both-follow user a b c f g sound sound' (inr (inr same)) = inr (inr (
   f.reply_is ∙ ap (λ (x : Told). x.reply) same ∙ sym g.reply_is,
   view-same user a.session' b.session' a.tables' b.tables' sound sound'
       (follows-told user a.tables a.session c a.reply a.tables' a.session' f ∙ ap (λ (x : Told). x.brief) same
-        ∙ sym (follows-told user b.tables b.session c b.reply b.tables' b.session' g)),
+      ∙ sym (follows-told user b.tables b.session c b.reply b.tables' b.session' g)),
 ))
 
 -- one deed, from two sound points that look alike to the user

@@ -112,7 +112,7 @@ module _ (tables : Tables) (rows : Placed tables) where
   kept-each : (queries : List QueryRow) → ((query : QueryRow) → In query queries → In query tables.queries)
       → Each (λ query. IsMoment query.arrival) queries
       → Each (λ query. delivered query.num.0 tables ≡ box_of_query query tables) queries
-          → Each (IsKeptQuery query_truth start_of tables) queries
+      → Each (IsKeptQuery query_truth start_of tables) queries
   kept-each [] has moments boxes = tt
   kept-each (query ∷ queries) has moments boxes = (
     record { rising = rows.rising query (start_of query) (has query (inl refl)) (start-by query moments.0.0); box = boxes.0 },

@@ -113,7 +113,7 @@ no-acts user t s [] (r ∷ rs) t' s' story sound none = absurd story
 no-acts user t s (c ∷ cs) [] t' s' story sound none = absurd story
 no-acts user t s (c ∷ cs) (r ∷ rs) t' s' story sound none =
     go (concerns user s c) refl none
-      (no-acts user story.0 story.1 cs rs t' s' story.3 (step-sound t s c r story.0 story.1 story.2 sound)) where
+    (no-acts user story.0 story.1 cs rs t' s' story.3 (step-sound t s c r story.0 story.1 story.2 sound)) where
       act : Act
       act = record { deed = deed_of s c; reply = r }
 
@@ -131,14 +131,14 @@ abbrev AgreesWithAll : List ℕ → List Act → Session → Tables → Session 
 AgreesWithAll user acts s t s' t' =
     (u : Tables) (v : Session) (ds : List Command) (qs : List Reply) (u' : Tables) (v' : Session) (story : Story u v ds qs u' v')
     → IsSound u v → view_of user s t ≡ view_of user v u → deeds acts ≡ deeds (acts_along user u v ds qs u' v' story)
-        → Unshared (acts_along user u v ds qs u' v' story)
+    → Unshared (acts_along user u v ds qs u' v' story)
     → (replies_in acts ≡ replies_in (acts_along user u v ds qs u' v' story)) × (view_of user s' t' ≡ view_of user v' u')
 
 -- an act before them
 act-before : (user : List ℕ) (a : Move) (acts : List Act) (s' : Session) (t' : Tables) → concerns user a.session a.command ≡ true
     → Present a.session → is_shared_reply a.reply ≡ false
     → AgreesWithAll user acts a.session' a.tables' s' t'
-        → AgreesWithAll user (record { deed = deed_of a.session a.command; reply = a.reply } ∷ acts) a.session a.tables s' t'
+    → AgreesWithAll user (record { deed = deed_of a.session a.command; reply = a.reply } ∷ acts) a.session a.tables s' t'
 act-before user a acts s' t'
     by there plain rest u v [] [] u' v' story sound same deed plain' = absurd (no-act (deed_of a.session a.command) (deeds acts) deed)
 act-before user a acts s' t' by there plain rest u v [] (q ∷ qs) u' v' story sound same deed plain' = absurd story
@@ -163,20 +163,21 @@ act-before user a acts s' t' by there plain rest u v (d ∷ ds) (q ∷ qs) u' v'
       go : (is : Bool) → concerns user v d ≡ is → deeds (act ∷ acts) ≡ deeds (if is then act' ∷ acts' else acts')
           → Unshared (if is then act' ∷ acts' else acts')
           → (view_of user a.session a.tables ≡ view_of user story.1 story.0 → deeds (act ∷ acts) ≡ deeds acts' → Unshared acts'
-                → (replies_in (act ∷ acts) ≡ replies_in acts') × (view_of user s' t' ≡ view_of user v' u'))
+          → (replies_in (act ∷ acts) ≡ replies_in acts') × (view_of user s' t' ≡ view_of user v' u'))
           → (replies_in (act ∷ acts) ≡ replies_in (if is then act' ∷ acts' else acts')) × (view_of user s' t' ≡ view_of user v' u')
       go false e deed plain' later = later (same ∙ sym (step-other user b e)) deed plain'
       go true e deed plain' later =
           elim (step-same user there.m a b there.is same (first-deed act.deed act'.deed (deeds acts) (deeds acts') deed) by) [
-        | inl shared ↦ absurd (not-both (is_shared_reply a.reply) shared plain)
-        | inr other ↦ elim other [
-          | inl shared ↦ absurd (not-both (is_shared_reply q) shared plain'.0)
-          | inr both ↦
-              let is = rest story.0 story.1 ds qs u' v' story.3 mid both.1 (other-deeds act.deed act'.deed (deeds acts) (deeds acts') deed)
+            | inl shared ↦ absurd (not-both (is_shared_reply a.reply) shared plain)
+            | inr other ↦ elim other [
+              | inl shared ↦ absurd (not-both (is_shared_reply q) shared plain'.0)
+              | inr both ↦
+                  let is =
+                  rest story.0 story.1 ds qs u' v' story.3 mid both.1 (other-deeds act.deed act'.deed (deeds acts) (deeds acts') deed)
                   plain'.1 in
-              (both-replies a.reply q (replies_in acts) (replies_in acts') both.0 is.0, is.1)
-        ]
-      ]
+                  (both-replies a.reply q (replies_in acts) (replies_in acts') both.0 is.0, is.1)
+            ]
+          ]
 
 -- the acts of a story agree with those of each other one
 agrees : (user : List ℕ) (t : Tables) (s : Session) (cs : List Command) (rs : List Reply) (t' : Tables) (s' : Session)
@@ -189,7 +190,7 @@ agrees user t s [] (r ∷ rs) t' s' story sound there plain = absurd story
 agrees user t s (c ∷ cs) [] t' s' story sound there plain = absurd story
 agrees user t s (c ∷ cs) (r ∷ rs) t' s' story sound there plain =
     go (concerns user s c) refl plain (agrees user story.0 story.1 cs rs t' s' story.3 (step-sound t s c r story.0 story.1 story.2 sound)
-        (moment-stays t s c r story.0 story.1 story.2 there)) where
+    (moment-stays t s c r story.0 story.1 story.2 there)) where
       a : Move
       a = move_of t s c r story.0 story.1 story.2 sound
 
@@ -209,7 +210,7 @@ agrees user t s (c ∷ cs) (r ∷ rs) t' s' story sound there plain =
 pub tales-same : (user : List ℕ) (moment : ℤ) (a b : Tale) → a.session.moment ≡ Some moment
     → view_of user a.session a.tables ≡ view_of user b.session b.tables → deeds (acts_of user a) ≡ deeds (acts_of user b)
     → Unshared (acts_of user a) → Unshared (acts_of user b) → (replies_in (acts_of user a) ≡ replies_in (acts_of user b))
-        × (view_of user a.session' a.tables' ≡ view_of user b.session' b.tables')
+    × (view_of user a.session' a.tables' ≡ view_of user b.session' b.tables')
 tales-same user moment a b at same deed plain plain' =
     agrees user a.tables a.session a.commands a.replies a.tables' a.session' a.story a.sound (record { m = moment; is = at }) plain
-        b.tables b.session b.commands b.replies b.tables' b.session' b.story b.sound same deed plain'
+    b.tables b.session b.commands b.replies b.tables' b.session' b.story b.sound same deed plain'

@@ -92,7 +92,7 @@ core_hits docs notes core moment =
 
 abbrev pub core_entries : List Doc → List Note → Core → List Entry
 core_entries docs notes core = entries_from core.runs (union_until (query_truth (row_of core)) (bare docs notes) (start_of (row_of core))
-      (last_or (start_of (row_of core)) core.runs)) 1 core.runs
+    (last_or (start_of (row_of core)) core.runs)) 1 core.runs
 
 abbrev pub core_lines : Core → List (List ℕ)
 core_lines core = lines_of (row_of core)
@@ -111,7 +111,7 @@ pub box-core : (q : QueryRow) (t : Tables) → box_of_query q t ≡ core_entries
 unfolding start_of
 box-core q t =
     ap (λ hits. entries_from (run_moments q.num.0 t.runs) hits 1 (run_moments q.num.0 t.runs))
-      (fresh-bare q t (start_of q) (start_of q) (covered (start_of q) q.num.0 t.runs))
+    (fresh-bare q t (start_of q) (start_of q) (covered (start_of q) q.num.0 t.runs))
 
 -- the lines that explain a query are of its core alone
 pub lines-core : (q : QueryRow) (runs : List RunRow) → lines_of q ≡ core_lines (core_of runs q)
@@ -157,8 +157,13 @@ full_query docs notes core =
     record { name = core.name; source = core.source; arrival = core.arrival; runs = core.runs; entries = core_entries docs notes core }
 
 abbrev full_view : Brief → View
-full_view brief = record { docs = brief.docs; notes = brief.notes; queries = map (full_query brief.docs brief.notes) brief.queries;
-      filter = brief.filter; moment = brief.moment }
+full_view brief = record {
+  docs = brief.docs;
+  notes = brief.notes;
+  queries = map (full_query brief.docs brief.notes) brief.queries;
+  filter = brief.filter;
+  moment = brief.moment;
+}
 
 full-one : (q : QueryRow) (t : Tables) → IsKeptQuery query_truth start_of t q
     → query_view t q ≡ full_query t.docs t.notes (core_of t.runs q)
@@ -176,8 +181,8 @@ full-queries user t (q ∷ qs) each = go (bytes_eq q.owner user) (full-queries u
   go : (b : Bool)
       → map (query_view t) (filter (λ query. bytes_eq query.owner user) qs) ≡ map (full_query t.docs t.notes) (cores user t.runs qs)
       → map (query_view t) (if b then q ∷ filter (λ query. bytes_eq query.owner user) qs
-            else filter (λ query. bytes_eq query.owner user) qs) ≡ map (full_query t.docs t.notes) (map (core_of t.runs)
-            (if b then q ∷ filter (λ query. bytes_eq query.owner user) qs else filter (λ query. bytes_eq query.owner user) qs))
+      else filter (λ query. bytes_eq query.owner user) qs) ≡ map (full_query t.docs t.notes) (map (core_of t.runs)
+      (if b then q ∷ filter (λ query. bytes_eq query.owner user) qs else filter (λ query. bytes_eq query.owner user) qs))
   go true rest = both _ _ _ _ (full-one q t each.0) rest
   go false rest = rest
 
@@ -198,8 +203,8 @@ named-core user name runs (q ∷ qs) = go (bytes_eq q.owner user) (bytes_eq q.na
   go : (a b : Bool) → bytes_eq q.name name ≡ b
       → option_map (core_of runs) (find (is_query_of user name) qs) ≡ find (λ core. bytes_eq core.name name) (cores user runs qs)
       → option_map (core_of runs) (if a && b then Some q else find (is_query_of user name) qs)
-          ≡ find (λ core. bytes_eq core.name name) (map (core_of runs)
-            (if a then q ∷ filter (λ query. bytes_eq query.owner user) qs else filter (λ query. bytes_eq query.owner user) qs))
+      ≡ find (λ core. bytes_eq core.name name) (map (core_of runs)
+      (if a then q ∷ filter (λ query. bytes_eq query.owner user) qs else filter (λ query. bytes_eq query.owner user) qs))
   go true true e rest = rw e refl
   go true false e rest = rw e rest
   go false true e rest = rest

@@ -61,7 +61,7 @@ docs-any : (test : Hit → Bool) (second : Doc → Option ℤ) (docs : List Doc)
 docs-any test second [] = refl
 docs-any test second (doc ∷ docs) =
     one-any test doc (second doc) (filter_map (λ doc. hit_of doc (second doc)) docs)
-      ∙ ap (λ b. hit_passes test doc (second doc) || b) (docs-any test second docs)
+    ∙ ap (λ b. hit_passes test doc (second doc) || b) (docs-any test second docs)
 
 by-any : (test : Hit → Bool) (second : Doc → Option ℤ) (docs : List Doc)
     → list_any test (hits_by second docs) ≡ list_any (λ doc. hit_passes test doc (second doc)) docs
@@ -103,9 +103,9 @@ early-hit : (doc : Doc) (from t f : ℤ) → f <ℤ t
     → hit_passes any_hit doc (at_least from (Some f)) ≡ hit_passes (is_below t) doc (at_least from (Some f))
 early-hit doc from t f lt = elim (int_le from f)
     as (λ b. hit_passes any_hit doc (if b then Some f else None) ≡ hit_passes (is_below t) doc (if b then Some f else None)) [
-  | true ↦ sym (below f t lt)
-  | false ↦ refl
-]
+      | true ↦ sym (below f t lt)
+      | false ↦ refl
+    ]
 
 no-seconds : (p : ℤ → Bool) (start t : ℤ) → t ≤ℤ start → least_second p start t ≡ None
 no-seconds p start t le = ap (λ n. first_from p n start) (gap-none start t le)
@@ -113,14 +113,14 @@ no-seconds p start t le = ap (λ n. first_from p n start) (gap-none start t le)
 -- a second is found up to a moment if and only if the one that is found up to a later moment is below it
 second-same : (p : ℤ → Bool) (doc : Doc) (start from t last : ℤ) → t ≤ℤ last
     → hit_passes any_hit doc (at_least from (least_second p start t))
-        ≡ hit_passes (is_below t) doc (at_least from (least_second p start last))
+    ≡ hit_passes (is_below t) doc (at_least from (least_second p start last))
 second-same p doc start from t last le =
     by_lt_z t start
     (λ lt. ap (λ o. hit_passes any_hit doc (at_least from o)) (no-seconds p start t (omega (arith, ints, lt)))
     ∙ sym (late-second doc from t (least_second p start last) (λ g e. let w = least_second-within p start last g e in
-          omega (arith, ints, lt, w.0))))
+    omega (arith, ints, lt, w.0))))
     (λ ge. go (least_second p start t) refl
-      ∙ sym (ap (λ o. hit_passes (is_below t) doc (at_least from o)) (least_second-more p start t last ge le)))
+    ∙ sym (ap (λ o. hit_passes (is_below t) doc (at_least from o)) (least_second-more p start t last ge le)))
   where
     go : (o : Option ℤ) → least_second p start t ≡ o → hit_passes any_hit doc (at_least from (least_second p start t))
         ≡ hit_passes (is_below t) doc (at_least from (option_or (least_second p start t) (least_second p t last)))
@@ -134,7 +134,7 @@ deliver-below truth tables start from t last le =
     length-any (fresh_in truth tables start from t)
     ∙ by-any any_hit (λ doc. at_least from (first_second truth tables doc start t)) tables.docs
     ∙ any-same (λ doc. hit_passes any_hit doc (at_least from (first_second truth tables doc start t)))
-        (λ doc. hit_passes (is_below t) doc (at_least from (first_second truth tables doc start last))) tables.docs
+    (λ doc. hit_passes (is_below t) doc (at_least from (first_second truth tables doc start last))) tables.docs
     (λ doc. second-same (is_given truth tables doc) doc start from t last le)
     ∙ sym (by-any (is_below t) (λ doc. at_least from (first_second truth tables doc start last)) tables.docs)
 
@@ -143,9 +143,9 @@ less-below : (a b t : ℤ) → (int_lt a t || int_lt b t) ≡ int_lt (lesser a b
 less-below a b t =
     by_lt_z b a
     (λ lt. rw (not-up-to a b lt)
-      (by_lt_z a t (λ l. rw (below a t l, below b t (omega (arith, ints, lt, l))) refl) (λ l. rw (not-below a t l) refl)))
+    (by_lt_z a t (λ l. rw (below a t l, below b t (omega (arith, ints, lt, l))) refl) (λ l. rw (not-below a t l) refl)))
     (λ ge. rw (up-to a b ge)
-      (by_lt_z a t (λ l. rw (below a t l) refl) (λ l. rw (not-below a t l, not-below b t (omega (arith, ints, ge, l))) refl)))
+    (by_lt_z a t (λ l. rw (below a t l) refl) (λ l. rw (not-below a t l, not-below b t (omega (arith, ints, ge, l))) refl)))
 
 lesser-below : (a t : ℤ) (o : Option ℤ) → (int_lt a t || second_below t o) ≡ second_below t (lesser_or a o)
 lesser-below a t None = elim (int_lt a t) as (λ b. (b || false) ≡ b) [ true ↦ refl | false ↦ refl ]
@@ -165,7 +165,7 @@ lesser-within : (a b high : ℤ) (o : Option ℤ) → a <ℤ high → ((m : ℤ)
 lesser-within a b high None lt rest e = subst (λ x. x <ℤ high) (some-second a b e) lt
 lesser-within a b high (Some m) lt rest e =
     subst (λ x. x <ℤ high) (some-second (lesser a m) b e)
-      (elim (int_le a m) as (λ c. (if c then a else m) <ℤ high) [ true ↦ lt | false ↦ rest m refl ])
+    (elim (int_le a m) as (λ c. (if c then a else m) <ℤ high) [ true ↦ lt | false ↦ rest m refl ])
 
 -- the least mark lies below the end of the window
 least-within : (low high : ℤ) (hits : List Hit) (b : ℤ) → Within low high hits → least_mark hits ≡ Some b → b <ℤ high
@@ -184,10 +184,10 @@ after-second (Some b) now last le within =
     (λ no. absurd (omega (arith, ints, lt, no)))
     (λ ge. later now (greater-is now (b +ℤ pos 1) ge)
     (least_second-is (λ t. int_lt b t) now (pos (suc last)) now (omega (arith, ints)) (omega (arith, ints, le)) (below b now lt) (λ x lo hi.
-      absurd (omega (arith, ints, lo, hi))))))
+    absurd (omega (arith, ints, lo, hi))))))
     (λ ge. later (b +ℤ pos 1) (ap (λ c. if c then b +ℤ pos 1 else now) (up-to now (b +ℤ pos 1) (omega (arith, ints, ge))))
     (least_second-is (λ t. int_lt b t) now (pos (suc last)) (b +ℤ pos 1) (omega (arith, ints, ge)) (omega (arith, ints, high))
-      (below b (b +ℤ pos 1) (omega (arith, ints))) (λ x lo hi. not-below b x (omega (arith, ints, hi))))))
+    (below b (b +ℤ pos 1) (omega (arith, ints))) (λ x lo hi. not-below b x (omega (arith, ints, hi))))))
   where
     later : (s : ℤ) → greater now (b +ℤ pos 1) ≡ s → least_second (λ t. int_lt b t) now (pos (suc last)) ≡ Some s
         → least_second (λ t. int_lt b t) now (pos (suc last)) ≡ Some (greater now (b +ℤ pos 1))
@@ -204,7 +204,7 @@ runs-last queries place low start num (run ∷ runs) stand le =
     let here = first-part (run_stands queries place low run) (runs_stand queries (place + 1) run.moment runs) stand in
     let rest = second-part (run_stands queries place low run) (runs_stand queries (place + 1) run.moment runs) stand in
     let moment = second-part (run.num == place) (may_follow low run.moment)
-        (first-part ((run.num == place) && may_follow low run.moment) (was_defined queries run.query.0 run.moment) here) in
+    (first-part ((run.num == place) && may_follow low run.moment) (was_defined queries run.query.0 run.moment) here) in
     elim (cases_Bool (run.query.0 == num)) [
       | inl y ↦ rw y (runs-last queries (place + 1) run.moment run.moment num runs rest (follow-last low run.moment moment))
       | inr n ↦ rw n (runs-last queries (place + 1) run.moment start num runs rest le)
@@ -214,7 +214,7 @@ query-last : (low : ℤ) (x : QueryRow) (earlier : List QueryRow) (place : ℕ) 
     → x.arrival ≤ℤ pos LAST_MOMENT
 query-last low x earlier place stands =
     let named = first-part ((x.num.0 == place) && may_follow low x.arrival && is_name x.owner && is_name x.name)
-        (not (list_any (is_query_of x.owner x.name) earlier)) stands in
+    (not (list_any (is_query_of x.owner x.name) earlier)) stands in
     let owned = first-part ((x.num.0 == place) && may_follow low x.arrival && is_name x.owner) (is_name x.name) named in
     let placed = first-part ((x.num.0 == place) && may_follow low x.arrival) (is_name x.owner) owned in
     follow-last low x.arrival (second-part (x.num.0 == place) (may_follow low x.arrival) placed)
@@ -227,7 +227,7 @@ queries-last earlier place low (x ∷ queries) query stand (inl e) =
     subst (λ (q : QueryRow). q.arrival ≤ℤ pos LAST_MOMENT) (sym e) (query-last low x earlier place here)
 queries-last earlier place low (x ∷ queries) query stand (inr has) =
     queries-last (earlier ++ x ∷ []) (place + 1) x.arrival queries query
-      (second-part (query_stands earlier place low x) (queries_stand (earlier ++ x ∷ []) (place + 1) x.arrival queries) stand) has
+    (second-part (query_stands earlier place low x) (queries_stand (earlier ++ x ∷ []) (place + 1) x.arrival queries) stand) has
 
 start-last : (query : QueryRow) → query.arrival ≤ℤ pos LAST_MOMENT → start_of query ≤ℤ pos LAST_MOMENT
 unfolding start_of
@@ -245,7 +245,7 @@ covered-last t query formed has =
     let picks = picks_stand t.runs t.docs [] 1 None t.picks in
     let filters = filters_stand 1 (pos 0) t.filters in
     let four =
-        first-part (docs && notes && queries && runs) picks (first-part (docs && notes && queries && runs && picks) filters formed) in
+    first-part (docs && notes && queries && runs) picks (first-part (docs && notes && queries && runs && picks) filters formed) in
     let three = first-part (docs && notes && queries) runs four in
     runs-last t.queries 1 (pos 0) (start_of query) query.num.0 t.runs (second-part (docs && notes && queries) runs four)
     (start-last query (queries-last [] 1 (pos 0) t.queries query (second-part (docs && notes) queries three) has))
@@ -258,6 +258,6 @@ wakes-are-windows tables session query now sound has moment =
     let hits = hits_of query tables last in
     ap (next_wake now) (run-of-sound tables session query last sound has (covered-last tables query sound.formed has))
     ∙ after-second (least_mark hits) now LAST_MOMENT moment.1 (λ b is.
-        least-within (start_of query) last hits b (fresh-within (query_truth query) tables (start_of query) from last) is)
+    least-within (start_of query) last hits b (fresh-within (query_truth query) tables (start_of query) from last) is)
     ∙ sym (least_second-same (does_deliver query tables) (λ t. second_below t (least_mark hits)) now (pos (suc LAST_MOMENT))
     (λ t lo hi. deliver-below (query_truth query) tables (start_of query) from t last (omega (arith, ints, hi)) ∙ least-below t hits))

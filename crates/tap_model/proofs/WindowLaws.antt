@@ -75,9 +75,9 @@ run-hits doc run ms [] e = e
 run-hits doc run ms (hit ∷ hits) e = elim (cases_Bool (run_of hit.first ms == run)) [
   | inl y ↦ elim (or-cases (nat_eq doc hit.doc.0)
       (list_any (is_entry_of doc) (map (entry_at run) (filter (λ hit. run_of hit.first ms == run) hits))) (rw y at e)) [
-    | inl here ↦ or-left (nat_eq doc hit.doc.0) (list_any (is_of doc) hits) here
-    | inr later ↦ or-right (nat_eq doc hit.doc.0) (list_any (is_of doc) hits) (run-hits doc run ms hits later)
-  ]
+        | inl here ↦ or-left (nat_eq doc hit.doc.0) (list_any (is_of doc) hits) here
+        | inr later ↦ or-right (nat_eq doc hit.doc.0) (list_any (is_of doc) hits) (run-hits doc run ms hits later)
+      ]
   | inr n ↦ or-right (nat_eq doc hit.doc.0) (list_any (is_of doc) hits) (run-hits doc run ms hits (rw n at e))
 ]
 
@@ -87,10 +87,10 @@ box-hits : (doc run : ℕ) (mm ms : List ℤ) (hits : List Hit) → list_any (is
 box-hits doc run mm [] hits e = absurd cc
 box-hits doc run mm (m ∷ ms) hits e =
     elim (or-cases (list_any (is_entry_of doc) (entries_of mm hits run)) (list_any (is_entry_of doc) (entries_from mm hits (run + 1) ms))
-      (sym (list_any-append (is_entry_of doc) (entries_of mm hits run) (entries_from mm hits (run + 1) ms)) ∙ e)) [
-  | inl here ↦ run-hits doc run mm hits here
-  | inr later ↦ box-hits doc (run + 1) mm ms hits later
-]
+    (sym (list_any-append (is_entry_of doc) (entries_of mm hits run) (entries_from mm hits (run + 1) ms)) ∙ e)) [
+      | inl here ↦ run-hits doc run mm hits here
+      | inr later ↦ box-hits doc (run + 1) mm ms hits later
+    ]
 
 above : (f m : ℤ) → f <ℤ m → int_lt f m ≡ true
 above f m lt = grind (arith, ints)
@@ -116,10 +116,11 @@ hit-in-run doc run ms [] hit has is at = absurd has
 hit-in-run doc run ms (x ∷ hits) hit (inl e) is at =
     let yes : (run_of x.first ms == run) ≡ true = ap (λ (h : Hit). run_of h.first ms == run) (sym e) ∙ ap (λ k. k == run) at ∙ same run in
     rw yes (or-left (nat_eq doc x.doc.0) (list_any (is_entry_of doc) (map (entry_at run) (filter (λ hit. run_of hit.first ms == run) hits)))
-        (ap (is_of doc) (sym e) ∙ is))
+    (ap (is_of doc) (sym e) ∙ is))
 hit-in-run doc run ms (x ∷ hits) hit (inr has) is at = elim (cases_Bool (run_of x.first ms == run)) [
   | inl y ↦
-    rw y (or-right (nat_eq doc x.doc.0) (list_any (is_entry_of doc) (map (entry_at run) (filter (λ hit. run_of hit.first ms == run) hits)))
+      rw y
+      (or-right (nat_eq doc x.doc.0) (list_any (is_entry_of doc) (map (entry_at run) (filter (λ hit. run_of hit.first ms == run) hits)))
       (hit-in-run doc run ms hits hit has is at))
   | inr n ↦ rw n (hit-in-run doc run ms hits hit has is at)
 ]
@@ -130,11 +131,11 @@ hit-in-box : (doc k : ℕ) (mm ms : List ℤ) (hits : List Hit) (hit : Hit) → 
 hit-in-box doc k mm [] hits hit has is from below = absurd (omega arith)
 hit-in-box doc k mm (m ∷ ms) hits hit has is from below = elim (cases_Bool (run_of hit.first mm == k)) [
   | inl y ↦ list_any-append (is_entry_of doc) (entries_of mm hits k) (entries_from mm hits (k + 1) ms)
-    ∙ or-left (list_any (is_entry_of doc) (entries_of mm hits k)) (list_any (is_entry_of doc) (entries_from mm hits (k + 1) ms))
-    (hit-in-run doc k mm hits hit has is (equal (run_of hit.first mm) k y))
+      ∙ or-left (list_any (is_entry_of doc) (entries_of mm hits k)) (list_any (is_entry_of doc) (entries_from mm hits (k + 1) ms))
+      (hit-in-run doc k mm hits hit has is (equal (run_of hit.first mm) k y))
   | inr n ↦ list_any-append (is_entry_of doc) (entries_of mm hits k) (entries_from mm hits (k + 1) ms)
-    ∙ or-right (list_any (is_entry_of doc) (entries_of mm hits k)) (list_any (is_entry_of doc) (entries_from mm hits (k + 1) ms))
-    (hit-in-box doc (k + 1) mm ms hits hit has is (next (run_of hit.first mm) k n from) (fewer (run_of hit.first mm) k (length ms) below))
+      ∙ or-right (list_any (is_entry_of doc) (entries_of mm hits k)) (list_any (is_entry_of doc) (entries_from mm hits (k + 1) ms))
+      (hit-in-box doc (k + 1) mm ms hits hit has is (next (run_of hit.first mm) k n from) (fewer (run_of hit.first mm) k (length ms) below))
 ]
   where
     equal : (a b : ℕ) → (a == b) ≡ true → a ≡ b
@@ -234,9 +235,9 @@ doc-hit : (second : Doc → Option ℤ) (num : ℕ) (low : ℤ) (docs : List Doc
 doc-hit second num low [] d arrived has = absurd has
 doc-hit second num low (x ∷ docs) d arrived (inl e) =
     subst (λ (y : Doc). list_any (is_of y.num.0) (cons_option (hit_of x (second x)) (filter_map (λ d. hit_of d (second d)) docs))
-          ≡ is_some (second y)) (sym e)
+    ≡ is_some (second y)) (sym e)
     (own-hit x (second x) (filter_map (λ d. hit_of d (second d)) docs)
-      (none-later second x.num.0 (suc num) x.arrival docs arrived.2 (omega (arith, arrived.1))))
+    (none-later second x.num.0 (suc num) x.arrival docs arrived.2 (omega (arith, arrived.1))))
 doc-hit second num low (x ∷ docs) d arrived (inr has) =
     let from = num-from (suc num) x.arrival docs d arrived.2 has in
     other-hit d.num.0 x (second x) (filter_map (λ d. hit_of d (second d)) docs) (nat-more d.num.0 x.num.0 (omega (arith, arrived.1, from)))
@@ -257,13 +258,13 @@ from-start truth tables d start t = go (first_second truth tables d start t) ref
 delivered-before : (truth : QueryRow → Truth) (start : QueryRow → ℤ) (tables : Tables) (query : QueryRow) (d : Doc)
     → IsKeptQuery truth start tables query → Arrived 1 (pos 0) tables.docs → In d tables.docs
     → is_delivered (delivered query.num.0 tables) d
-        ≡ is_some (first_second (truth query) tables d (start query) (covered (start query) query.num.0 tables.runs))
+    ≡ is_some (first_second (truth query) tables d (start query) (covered (start query) query.num.0 tables.runs))
 delivered-before truth start tables query d kept arrived has =
     let last = covered (start query) query.num.0 tables.runs in
     let second : Doc → Option ℤ = λ doc. at_least (start query) (first_second (truth query) tables doc (start query) last) in
     ap (λ entries. list_any (is_entry_of d.num.0) entries) kept.box
     ∙ box-docs d.num.0 (start query) (run_moments query.num.0 tables.runs) (union_until (truth query) tables (start query) last)
-        kept.rising (fresh-within (truth query) tables (start query) (start query) last)
+    kept.rising (fresh-within (truth query) tables (start query) (start query) last)
     ∙ order-any (is_of d.num.0) (filter_map (λ doc. hit_of doc (second doc)) tables.docs)
     ∙ doc-hit second 1 (pos 0) tables.docs d arrived has
     ∙ from-start (truth query) tables d (start query) last
@@ -283,7 +284,7 @@ same-fresh : (c : Condition) (t : Tables) (start tau until : ℤ)
     → fresh_in (Holds.truth_of c) (asked_rows t) start tau until ≡ fresh_in (Holds.truth_of c) t start tau until
 same-fresh c t start tau until =
     ap hits_in_order (filter_map-same (λ doc. hit_of doc (at_least tau (first_second (Holds.truth_of c) (asked_rows t) doc start until)))
-      (λ doc. hit_of doc (at_least tau (first_second (Holds.truth_of c) t doc start until))) t.docs
+    (λ doc. hit_of doc (at_least tau (first_second (Holds.truth_of c) t doc start until))) t.docs
     (λ doc. ap (λ o. hit_of doc (at_least tau o)) (same-first c t doc start until)))
 
 filter-in : (p q : Doc → Bool) (docs : List Doc) → ((d : Doc) → In d docs → p d ≡ q d)
@@ -341,7 +342,7 @@ not-early : (low : ℤ) (x : QueryRow) (earlier : List QueryRow) (place : ℕ) �
     → pos 0 ≤ℤ x.arrival
 not-early low x earlier place stands le =
     let named = first-part ((x.num.0 == place) && may_follow low x.arrival && is_name x.owner && is_name x.name)
-        (not (list_any (is_query_of x.owner x.name) earlier)) stands in
+    (not (list_any (is_query_of x.owner x.name) earlier)) stands in
     let owned = first-part ((x.num.0 == place) && may_follow low x.arrival && is_name x.owner) (is_name x.name) named in
     let placed = first-part ((x.num.0 == place) && may_follow low x.arrival) (is_name x.owner) owned in
     omega (arith, ints, le, follow-le low x.arrival (second-part (x.num.0 == place) (may_follow low x.arrival) placed))
@@ -385,7 +386,7 @@ run-is-window tables query moment kept arrived positive le =
     let w : Window = record { low = last; high = moment } in
     let rows = asked_rows tables in
     same-without (is_delivered (delivered query.num.0 tables)) (λ d. is_some (first_second (Holds.truth_of c) rows d start last))
-      (probes_of_query query) rows w
+    (probes_of_query query) rows w
     (λ d has. delivered-before query_truth start_of tables query d kept arrived has ∙ ap is_some (sym (same-first c tables d start last)))
     ∙ (form_is_union c start (is-query (condition_text query.source)) positive).since rows last moment
     (from-zero 1 (pos 0) tables.docs (omega (arith, ints)) arrived) (rising-le start (run_moments query.num.0 tables.runs) kept.rising) le
@@ -400,13 +401,13 @@ queries-late earlier place low (x ∷ queries) query stand le (inl e) =
 queries-late earlier place low (x ∷ queries) query stand le (inr has) =
     let here = first-part (query_stands earlier place low x) (queries_stand (earlier ++ x ∷ []) (place + 1) x.arrival queries) stand in
     queries-late (earlier ++ x ∷ []) (place + 1) x.arrival queries query
-      (second-part (query_stands earlier place low x) (queries_stand (earlier ++ x ∷ []) (place + 1) x.arrival queries) stand)
-      (not-early low x earlier place here le) has
+    (second-part (query_stands earlier place low x) (queries_stand (earlier ++ x ∷ []) (place + 1) x.arrival queries) stand)
+    (not-early low x earlier place here le) has
 
 pub run-of-sound : RunsAreWindows
 run-of-sound tables session query moment sound has le =
     run-is-window tables query moment (each-in (IsKeptQuery query_truth start_of tables) tables.queries query sound.kept.each has)
-      sound.kept.docs (start-positive query (late tables query sound.formed has)) le
+    sound.kept.docs (start-positive query (late tables query sound.formed has)) le
   where
     late : (tables : Tables) (query : QueryRow) → is_well_formed tables ≡ true → In query tables.queries → pos 0 ≤ℤ query.arrival
     late t query formed has =
@@ -418,5 +419,5 @@ run-of-sound tables session query moment sound has le =
         let filters = filters_stand 1 (pos 0) t.filters in
         queries-late [] 1 (pos 0) t.queries query
         (second-part (docs && notes) queries (first-part (docs && notes && queries) runs
-            (first-part (docs && notes && queries && runs) picks (first-part (docs && notes && queries && runs && picks) filters formed))))
+        (first-part (docs && notes && queries && runs) picks (first-part (docs && notes && queries && runs && picks) filters formed))))
         (omega (arith, ints)) has

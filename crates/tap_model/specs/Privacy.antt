@@ -141,7 +141,7 @@ acts_along user tables session [] [] tables' session' story = []
 acts_along user tables session (command ∷ commands) (reply ∷ replies) tables' session' story =
     if concerns user session command
     then record { deed = deed_of session command; reply = reply }
-        ∷ acts_along user story.0 story.1 commands replies tables' session' story.3
+    ∷ acts_along user story.0 story.1 commands replies tables' session' story.3
     else acts_along user story.0 story.1 commands replies tables' session' story.3
 acts_along user tables session [] (reply ∷ replies) tables' session' story = []
 acts_along user tables session (command ∷ commands) [] tables' session' story = []

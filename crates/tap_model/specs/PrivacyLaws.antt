@@ -20,7 +20,7 @@ SameDeedSameReply =
 abbrev pub OthersLeaveTheView : Type 0
 OthersLeaveTheView =
     (user : List ℕ) (a : Move) → concerns user a.session a.command ≡ false
-      → view_of user a.session' a.tables' ≡ view_of user a.session a.tables
+    → view_of user a.session' a.tables' ≡ view_of user a.session a.tables
 
 -- take two stories from sound points that look alike to the user, at a moment; if the acts in them that concern the user
 -- have the same deeds and meet no shared refusal, they have the same replies, and the ends look alike

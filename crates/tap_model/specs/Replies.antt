@@ -94,8 +94,13 @@ add_mbox texts session tables = record {
 -- the next query
 abbrev pub next_query : Tables → Session → List ℕ → List ℕ → QueryRow
 next_query tables session name source =
-    record { num = record { 0 = length tables.queries + 1 }; owner = user_of session; name = name; source = source;
-        arrival = moment_or_zero session }
+    record {
+      num = record { 0 = length tables.queries + 1 };
+      owner = user_of session;
+      name = name;
+      source = source;
+      arrival = moment_or_zero session;
+    }
 
 -- `query`: a query of the user
 abbrev pub add_query : List ℕ → List ℕ → Session → Tables → Answer

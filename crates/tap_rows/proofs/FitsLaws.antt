@@ -41,12 +41,12 @@ last_from-is next s [] = refl
 last_from-is next s (x ∷ []) = refl
 last_from-is {A = A} next s (x ∷ y ∷ ys) = last_from-is next (next x) (y ∷ ys)
     ∙ sym (same (last_row (x ∷ y ∷ ys)) (last_row (y ∷ ys)) (last_row-more x y ys) (some y ys)) where
-  some : {A : Type 0} (y : A) (ys : List A) → (z : A) × (last_row (y ∷ ys) ≡ Some z)
-  some y [] = (y, refl)
-  some y (z ∷ zs) = let rest = some z zs in (rest.0, last_row-more y z zs ∙ rest.1)
+      some : {A : Type 0} (y : A) (ys : List A) → (z : A) × (last_row (y ∷ ys) ≡ Some z)
+      some y [] = (y, refl)
+      some y (z ∷ zs) = let rest = some z zs in (rest.0, last_row-more y z zs ∙ rest.1)
 
-  same : (a b : Option A) → a ≡ b → (z : A) × (b ≡ Some z) → handed next s a ≡ handed next (next x) b
-  same a b e z = rw (e, z.1) refl
+      same : (a b : Option A) → a ≡ b → (z : A) × (b ≡ Some z) → handed next s a ≡ handed next (next x) b
+      same a b e z = rw (e, z.1) refl
 
 low-is : {A : Type 0} (moment : A → ℤ) (xs : List A) → last_from moment (pos 0) xs ≡ low_of moment xs
 low-is {A = A} moment xs = last_from-is moment (pos 0) xs ∙ plain (last_row xs) where
@@ -68,17 +68,23 @@ and-assoc false b c = refl
 stand-append : {A S : Type 0} (one : List A → ℕ → S → A → Bool) (next : A → S) (all : List A → ℕ → S → List A → Bool)
     → ((earlier : List A) (place : ℕ) (s : S) → all earlier place s [] ≡ true)
     → ((earlier : List A) (place : ℕ) (s : S) (x : A) (xs : List A)
-          → all earlier place s (x ∷ xs) ≡ (one earlier place s x && all (earlier ++ x ∷ []) (place + 1) (next x) xs))
+    → all earlier place s (x ∷ xs) ≡ (one earlier place s x && all (earlier ++ x ∷ []) (place + 1) (next x) xs))
     → (earlier : List A) (place : ℕ) (s : S) (xs ys : List A)
-        → all earlier place s (xs ++ ys) ≡ (all earlier place s xs && all (earlier ++ xs) (place + length xs) (last_from next s xs) ys)
+    → all earlier place s (xs ++ ys) ≡ (all earlier place s xs && all (earlier ++ xs) (place + length xs) (last_from next s xs) ys)
 stand-append one next all none some earlier place s [] ys = rw (none earlier place s, append-nil earlier, same place) refl where
   same : (n : ℕ) → n + 0 ≡ n
   same n = omega arith
 stand-append one next all none some earlier place s (x ∷ xs) ys =
-    rw (some earlier place s x (xs ++ ys), some earlier place s x xs, stand-append one next all none some (earlier ++ x ∷ []) (place + 1)
-        (next x) xs ys, append_assoc earlier (x ∷ []) xs, shift place (length xs))
-      (and-assoc (one earlier place s x) (all (earlier ++ x ∷ []) (place + 1) (next x) xs)
-        (all (earlier ++ x ∷ xs) (place + suc (length xs)) (last_from next (next x) xs) ys)) where
+    rw (
+      some earlier place s x (xs ++ ys),
+      some earlier place s x xs,
+      stand-append one next all none some (earlier ++ x ∷ []) (place + 1)
+          (next x) xs ys,
+      append_assoc earlier (x ∷ []) xs,
+      shift place (length xs),
+    )
+    (and-assoc (one earlier place s x) (all (earlier ++ x ∷ []) (place + 1) (next x) xs)
+    (all (earlier ++ x ∷ xs) (place + suc (length xs)) (last_from next (next x) xs) ys)) where
       shift : (n m : ℕ) → n + 1 + m ≡ n + suc m
       shift n m = omega arith
 
@@ -112,8 +118,8 @@ notes-more docs new place low (note ∷ notes) holds =
     let authors = and_parts _ _ kinds.0 in
     let places = and_parts _ _ authors.0 in
     and_from _ _ (and_from _ _ (and_from _ _
-          (and_from _ _ places.0 (is_row-more (λ doc. int_le doc.arrival note.arrival) note.doc.0 docs new places.1)) authors.1) kinds.1)
-      (notes-more docs new (place + 1) note.arrival notes parts.1)
+    (and_from _ _ places.0 (is_row-more (λ doc. int_le doc.arrival note.arrival) note.doc.0 docs new places.1)) authors.1) kinds.1)
+    (notes-more docs new (place + 1) note.arrival notes parts.1)
 
 runs-more : (queries new : List QueryRow) (place : ℕ) (low : ℤ) (runs : List RunRow) → runs_stand queries place low runs ≡ true
     → runs_stand (queries ++ new) place low runs ≡ true
@@ -122,7 +128,7 @@ runs-more queries new place low (run ∷ runs) holds =
     let parts = and_parts (run_stands queries place low run) (runs_stand queries (place + 1) run.moment runs) holds in
     let this = and_parts _ _ parts.0 in
     and_from _ _ (and_from _ _ this.0 (is_row-more (λ query. int_le query.arrival run.moment) run.query.0 queries new this.1))
-      (runs-more queries new (place + 1) run.moment runs parts.1)
+    (runs-more queries new (place + 1) run.moment runs parts.1)
 
 picked-more : (pick : Pick) (run run' : Option RunRow) (doc doc' : Option Doc) → ((r : RunRow) → run ≡ Some r → run' ≡ Some r)
     → ((d : Doc) → doc ≡ Some d → doc' ≡ Some d) → is_picked pick run doc ≡ true → is_picked pick run' doc' ≡ true
@@ -135,14 +141,14 @@ picks-more : (runs more : List RunRow) (docs new : List Doc) (earlier : List Pic
 picks-more runs more docs new earlier place before [] holds = refl
 picks-more runs more docs new earlier place before (pick ∷ picks) holds =
     let parts = and_parts (pick_stands runs docs earlier place before pick)
-        (picks_stand runs docs (earlier ++ pick ∷ []) (place + 1) (Some pick) picks) holds in
+    (picks_stand runs docs (earlier ++ pick ∷ []) (place + 1) (Some pick) picks) holds in
     let orders = and_parts _ _ parts.0 in
     let once = and_parts _ _ orders.0 in
     let this = and_parts _ _ once.0 in
     and_from _ _ (and_from _ _ (and_from _ _
-          (and_from _ _ this.0 (picked-more pick (row_at pick.run runs) (row_at pick.run (runs ++ more)) (row_at pick.doc.0 docs)
-              (row_at pick.doc.0 (docs ++ new)) (λ r. row-more pick.run runs more r) (λ d. row-more pick.doc.0 docs new d) this.1)) once.1)
-        orders.1)
+    (and_from _ _ this.0 (picked-more pick (row_at pick.run runs) (row_at pick.run (runs ++ more)) (row_at pick.doc.0 docs)
+    (row_at pick.doc.0 (docs ++ new)) (λ r. row-more pick.run runs more r) (λ d. row-more pick.doc.0 docs new d) this.1)) once.1)
+    orders.1)
     (picks-more runs more docs new (earlier ++ pick ∷ []) (place + 1) (Some pick) picks parts.1)
 
 -- the parts of what is well formed
@@ -211,9 +217,9 @@ docs-fit : (docs new : List Doc) → docs_stand 1 (pos 0) docs ≡ true
     → docs_stand 1 (pos 0) (docs ++ new) ≡ docs_stand (length docs + 1) (low_of (λ doc. doc.arrival) docs) new
 docs-fit docs new holds =
     both _ _ _ (stand-append (λ earlier place low doc. doc_stands place low doc) (λ doc. doc.arrival)
-        (λ earlier place low rows. docs_stand place low rows) (λ e p s. refl) (λ e p s x xs. refl) [] 1 (pos 0) docs new) holds
+    (λ earlier place low rows. docs_stand place low rows) (λ e p s. refl) (λ e p s x xs. refl) [] 1 (pos 0) docs new) holds
     ∙ moved (1 + length docs) (length docs + 1) (last_from (λ doc. doc.arrival) (pos 0) docs) (low_of (λ doc. doc.arrival) docs)
-        (one-more (length docs)) (low-is (λ doc. doc.arrival) docs) where
+    (one-more (length docs)) (low-is (λ doc. doc.arrival) docs) where
       moved : (p p' : ℕ) (l l' : ℤ) → p ≡ p' → l ≡ l' → docs_stand p l new ≡ docs_stand p' l' new
       moved p p' l l' e f = rw (e, f) refl
 
@@ -221,9 +227,9 @@ note-fits : (docs : List Doc) (notes : List Note) (new : Note) → notes_stand d
     → notes_stand docs 1 (pos 0) (notes ++ new ∷ []) ≡ note_stands docs (length notes + 1) (low_of (λ note. note.arrival) notes) new
 note-fits docs notes new holds =
     both _ _ _ (stand-append (λ earlier place low note. note_stands docs place low note) (λ note. note.arrival) (λ earlier place low rows.
-          notes_stand docs place low rows) (λ e p s. refl) (λ e p s x xs. refl) [] 1 (pos 0) notes (new ∷ [])) holds
+    notes_stand docs place low rows) (λ e p s. refl) (λ e p s x xs. refl) [] 1 (pos 0) notes (new ∷ [])) holds
     ∙ moved (1 + length notes) (length notes + 1) (last_from (λ note. note.arrival) (pos 0) notes) (low_of (λ note. note.arrival) notes)
-        (one-more (length notes)) (low-is (λ note. note.arrival) notes) where
+    (one-more (length notes)) (low-is (λ note. note.arrival) notes) where
       moved : (p p' : ℕ) (l l' : ℤ) → p ≡ p' → l ≡ l' → notes_stand docs p l (new ∷ []) ≡ note_stands docs p' l' new
       moved p p' l l' e f = rw (e, f) (and-end (note_stands docs p' l' new))
 
@@ -231,9 +237,9 @@ query-fits : (queries : List QueryRow) (new : QueryRow) → queries_stand [] 1 (
     (queries ++ new ∷ []) ≡ query_stands queries (length queries + 1) (low_of (λ query. query.arrival) queries) new
 query-fits queries new holds =
     both _ _ _ (stand-append query_stands (λ query. query.arrival) queries_stand (λ e p s. refl) (λ e p s x xs. refl) [] 1 (pos 0) queries
-        (new ∷ [])) holds
+    (new ∷ [])) holds
     ∙ moved (1 + length queries) (length queries + 1) (last_from (λ query. query.arrival) (pos 0) queries)
-        (low_of (λ query. query.arrival) queries) (one-more (length queries)) (low-is (λ query. query.arrival) queries) where
+    (low_of (λ query. query.arrival) queries) (one-more (length queries)) (low-is (λ query. query.arrival) queries) where
       moved : (p p' : ℕ) (l l' : ℤ) → p ≡ p' → l ≡ l' → queries_stand queries p l (new ∷ []) ≡ query_stands queries p' l' new
       moved p p' l l' e f = rw (e, f) (and-end (query_stands queries p' l' new))
 
@@ -241,9 +247,9 @@ run-fits : (queries : List QueryRow) (runs : List RunRow) (new : RunRow) → run
     → runs_stand queries 1 (pos 0) (runs ++ new ∷ []) ≡ run_stands queries (length runs + 1) (low_of (λ run. run.moment) runs) new
 run-fits queries runs new holds =
     both _ _ _ (stand-append (λ earlier place low run. run_stands queries place low run) (λ run. run.moment) (λ earlier place low rows.
-          runs_stand queries place low rows) (λ e p s. refl) (λ e p s x xs. refl) [] 1 (pos 0) runs (new ∷ [])) holds
+    runs_stand queries place low rows) (λ e p s. refl) (λ e p s x xs. refl) [] 1 (pos 0) runs (new ∷ [])) holds
     ∙ moved (1 + length runs) (length runs + 1) (last_from (λ run. run.moment) (pos 0) runs) (low_of (λ run. run.moment) runs)
-        (one-more (length runs)) (low-is (λ run. run.moment) runs) where
+    (one-more (length runs)) (low-is (λ run. run.moment) runs) where
       moved : (p p' : ℕ) (l l' : ℤ) → p ≡ p' → l ≡ l' → runs_stand queries p l (new ∷ []) ≡ run_stands queries p' l' new
       moved p p' l l' e f = rw (e, f) (and-end (run_stands queries p' l' new))
 
@@ -251,9 +257,9 @@ picks-fit : (runs : List RunRow) (docs : List Doc) (picks new : List Pick) → p
     → picks_stand runs docs [] 1 None (picks ++ new) ≡ picks_stand runs docs picks (length picks + 1) (last_row picks) new
 picks-fit runs docs picks new holds =
     both _ _ _ (stand-append (pick_stands runs docs) (λ pick. Some pick) (picks_stand runs docs) (λ e p s. refl) (λ e p s x xs. refl) [] 1
-        None picks new) holds
+    None picks new) holds
     ∙ moved (1 + length picks) (length picks + 1) (last_from (λ pick. Some pick) None picks) (last_row picks) (one-more (length picks))
-        (before-is picks) where
+    (before-is picks) where
       moved : (p p' : ℕ) (l l' : Option Pick) → p ≡ p' → l ≡ l'
           → picks_stand runs docs picks p l new ≡ picks_stand runs docs picks p' l' new
       moved p p' l l' e f = rw (e, f) refl
@@ -262,9 +268,9 @@ filter-fits : (filters : List FilterRow) (new : FilterRow) → filters_stand 1 (
     → filters_stand 1 (pos 0) (filters ++ new ∷ []) ≡ filter_stands (length filters + 1) (low_of (λ filter. filter.arrival) filters) new
 filter-fits filters new holds =
     both _ _ _ (stand-append (λ earlier place low filter. filter_stands place low filter) (λ filter. filter.arrival)
-        (λ earlier place low rows. filters_stand place low rows) (λ e p s. refl) (λ e p s x xs. refl) [] 1 (pos 0) filters (new ∷ [])) holds
+    (λ earlier place low rows. filters_stand place low rows) (λ e p s. refl) (λ e p s x xs. refl) [] 1 (pos 0) filters (new ∷ [])) holds
     ∙ moved (1 + length filters) (length filters + 1) (last_from (λ filter. filter.arrival) (pos 0) filters)
-        (low_of (λ filter. filter.arrival) filters) (one-more (length filters)) (low-is (λ filter. filter.arrival) filters) where
+    (low_of (λ filter. filter.arrival) filters) (one-more (length filters)) (low-is (λ filter. filter.arrival) filters) where
       moved : (p p' : ℕ) (l l' : ℤ) → p ≡ p' → l ≡ l' → filters_stand p l (new ∷ []) ≡ filter_stands p' l' new
       moved p p' l l' e f = rw (e, f) (and-end (filter_stands p' l' new))
 
@@ -283,18 +289,18 @@ pub fits-is : (tables : Tables) (change : Change) → is_well_formed tables ≡ 
 fits-is tables (Docs docs) holds =
     let f = formed tables holds in
     six-first _ _ _ _ _ _ _ (docs-fit tables.docs docs f.docs) (notes-more tables.docs docs 1 (pos 0) tables.notes f.notes)
-      f.queries f.runs (picks-docs tables.runs tables.docs docs tables.picks f.picks) f.filters
+    f.queries f.runs (picks-docs tables.runs tables.docs docs tables.picks f.picks) f.filters
 fits-is tables (OneNote note) holds =
     let f = formed tables holds in
     six-second _ _ _ _ _ _ _ f.docs (note-fits tables.docs tables.notes note f.notes) f.queries f.runs f.picks f.filters
 fits-is tables (OneQuery query) holds =
     let f = formed tables holds in
     six-third _ _ _ _ _ _ _ f.docs f.notes (query-fits tables.queries query f.queries)
-      (runs-more tables.queries (query ∷ []) 1 (pos 0) tables.runs f.runs) f.picks f.filters
+    (runs-more tables.queries (query ∷ []) 1 (pos 0) tables.runs f.runs) f.picks f.filters
 fits-is tables (RunDone run picks) holds =
     let f = formed tables holds in
     six-runs _ _ _ _ _ _ _ _ f.docs f.notes f.queries (run-fits tables.queries tables.runs run f.runs) (picks-fit (tables.runs ++ run ∷ [])
-        tables.docs tables.picks picks (picks-runs tables.runs (run ∷ []) tables.docs tables.picks f.picks)) f.filters
+    tables.docs tables.picks picks (picks-runs tables.runs (run ∷ []) tables.docs tables.picks f.picks)) f.filters
 fits-is tables (OneFilter filter) holds =
     let f = formed tables holds in
     six-last _ _ _ _ _ _ _ f.docs f.notes f.queries f.runs f.picks (filter-fits tables.filters filter f.filters)

@@ -33,8 +33,8 @@ pub first-holds : (truth : Truth) (tables : Tables) (doc : Doc) (start t : ℤ) 
     → doc.arrival <ℤ t → first_second truth tables doc start t ≡ Some doc.arrival
 first-holds truth tables doc start t from always below =
     least_second-is (is_given truth tables doc) start t doc.arrival from below
-      (rw (le-yes doc.arrival doc.arrival (omega (arith, ints)), always doc.arrival) refl) (λ r lo before.
-      rw (le-not doc.arrival r before) refl)
+    (rw (le-yes doc.arrival doc.arrival (omega (arith, ints)), always doc.arrival) refl) (λ r lo before.
+    rw (le-not doc.arrival r before) refl)
 
 pub first-late : (truth : Truth) (tables : Tables) (doc : Doc) (start t : ℤ) → t ≤ℤ doc.arrival
     → first_second truth tables doc start t ≡ None
@@ -52,7 +52,7 @@ hit-holds : (truth : Truth) (tables : Tables) (doc : Doc) (start tau t : ℤ) �
 hit-holds truth tables doc start tau t from always =
     by_lt_z doc.arrival t
     (λ lt. rw (first-holds truth tables doc start t from always lt, lt-yes doc.arrival t lt)
-      (elim (cases_Bool (int_le tau doc.arrival)) [ inl y ↦ rw y refl | inr n ↦ rw n refl ]))
+    (elim (cases_Bool (int_le tau doc.arrival)) [ inl y ↦ rw y refl | inr n ↦ rw n refl ]))
     (λ ge. rw (first-late truth tables doc start t ge, lt-not doc.arrival t ge, and-false (int_le tau doc.arrival)) refl)
 
 pub hit-is : (truth : Truth) (tables : Tables) (holds : Doc → Bool) (doc : Doc) (start tau t : ℤ)
@@ -79,9 +79,9 @@ hits-later : (holds : Doc → Bool) (tau t : ℤ) (num : ℕ) (low : ℤ) (docs 
 hits-later holds tau t num low [] arrived = tt
 hits-later holds tau t num low (doc ∷ docs) arrived =
     let rest = Later-weaker (suc num) doc.arrival num low (filter_map (arrival_hit holds tau t) docs) (omega arith)
-        arrived.0 (hits-later holds tau t (suc num) doc.arrival docs arrived.2) in
+    arrived.0 (hits-later holds tau t (suc num) doc.arrival docs arrived.2) in
     elim (holds doc && int_le tau doc.arrival && int_lt doc.arrival t)
-      as (λ b. Later num low (cons_option (if b then at_arrival doc else None) (filter_map (arrival_hit holds tau t) docs))) [
+    as (λ b. Later num low (cons_option (if b then at_arrival doc else None) (filter_map (arrival_hit holds tau t) docs))) [
       | true ↦ (arrived.0, omega (arith, arrived.1), rest)
       | false ↦ rest
     ]
@@ -101,10 +101,10 @@ hits-in_order holds tau t num low [] arrived = refl
 hits-in_order holds tau t num low (doc ∷ docs) arrived =
     let rest = hits-in_order holds tau t (suc num) doc.arrival docs arrived.2 in
     elim (holds doc && int_le tau doc.arrival && int_lt doc.arrival t)
-      as (λ b. hits_in_order (cons_option (if b then at_arrival doc else None) (filter_map (arrival_hit holds tau t) docs))
-        ≡ cons_option (if b then at_arrival doc else None) (filter_map (arrival_hit holds tau t) docs)) [
+    as (λ b. hits_in_order (cons_option (if b then at_arrival doc else None) (filter_map (arrival_hit holds tau t) docs))
+    ≡ cons_option (if b then at_arrival doc else None) (filter_map (arrival_hit holds tau t) docs)) [
       | true ↦ rw rest (put_in-first (record { doc = doc.num; first = doc.arrival }) (suc num) (filter_map (arrival_hit holds tau t) docs)
-            (omega (arith, arrived.1)) (hits-later holds tau t (suc num) doc.arrival docs arrived.2))
+          (omega (arith, arrived.1)) (hits-later holds tau t (suc num) doc.arrival docs arrived.2))
       | false ↦ rest
     ]
 
@@ -115,8 +115,10 @@ hits-same : (truth : Truth) (tables : Tables) (holds : Doc → Bool) (start tau 
 hits-same truth tables holds start tau t num low [] same from arrived = refl
 hits-same truth tables holds start tau t num low (doc ∷ docs) same from arrived =
     let from' : start ≤ℤ doc.arrival = omega (arith, ints, arrived.0) in
-    rw (hit-is truth tables holds doc start tau t same from',
-        hits-same truth tables holds start tau t (suc num) doc.arrival docs same from' arrived.2) refl
+    rw (
+      hit-is truth tables holds doc start tau t same from',
+      hits-same truth tables holds start tau t (suc num) doc.arrival docs same from' arrived.2,
+    ) refl
 
 -- the fresh documents of a condition whose truth is the same at every second: those for which it holds, that arrived in the window
 pub fresh-is : (truth : Truth) (tables : Tables) (holds : Doc → Bool) (start low tau t : ℤ)

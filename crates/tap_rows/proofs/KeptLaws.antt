@@ -44,9 +44,9 @@ moments-by : (query : ℕ) (t : ℤ) (runs : List RunRow) → Each (λ run. run.
 moments-by query t [] each = tt
 moments-by query t (run ∷ runs) each = elim (run.query.0 == query)
     as (λ b. Each (λ m. m ≤ℤ t) (map (λ run. run.moment) (if b then run ∷ runs_of query runs else runs_of query runs))) [
-  | true ↦ (each.0, moments-by query t runs each.1)
-  | false ↦ moments-by query t runs each.1
-]
+      | true ↦ (each.0, moments-by query t runs each.1)
+      | false ↦ moments-by query t runs each.1
+    ]
 
 rising-more : (low t : ℤ) (ms : List ℤ) → Rising low ms → last_or low ms ≤ℤ t → Rising low (ms ++ t ∷ [])
 rising-more low t [] rising le = (le, tt)
@@ -60,18 +60,18 @@ module _ (truth : QueryRow → Truth) (start : QueryRow → ℤ) (causal : (quer
   query-later t tables later query runs picks grown le kept =
       let moments : run_moments query.num.0 later.runs ≡ run_moments query.num.0 tables.runs = ap (run_moments query.num.0) runs in
       let until : covered (start query) query.num.0 later.runs ≡ covered (start query) query.num.0 tables.runs =
-          ap (last_or (start query)) moments in
+      ap (last_or (start query)) moments in
       let there : union_until (truth query) later (start query) (covered (start query) query.num.0 later.runs) ≡ union_until (truth query)
-          later (start query) (covered (start query) query.num.0 tables.runs) = ap (union_until (truth query) later (start query)) until in
+      later (start query) (covered (start query) query.num.0 tables.runs) = ap (union_until (truth query) later (start query)) until in
       let union : union_until (truth query) later (start query) (covered (start query) query.num.0 tables.runs)
-          ≡ union_until (truth query) tables (start query) (covered (start query) query.num.0 tables.runs) = fresh-later (truth query) t
-          tables later (start query) (start query) (covered (start query) query.num.0 tables.runs) (causal query) grown le in
+      ≡ union_until (truth query) tables (start query) (covered (start query) query.num.0 tables.runs) = fresh-later (truth query) t
+      tables later (start query) (start query) (covered (start query) query.num.0 tables.runs) (causal query) grown le in
       record {
         rising = subst (Rising (start query)) (sym moments) kept.rising;
         box = delivered-same query.num.0 tables.runs later.runs tables.picks later.picks runs picks ∙ kept.box
             ∙ sym (entries-same (run_moments query.num.0 later.runs) (run_moments query.num.0 tables.runs)
-              (union_until (truth query) later (start query) (covered (start query) query.num.0 later.runs))
-              (union_until (truth query) tables (start query) (covered (start query) query.num.0 tables.runs)) moments (there ∙ union));
+            (union_until (truth query) later (start query) (covered (start query) query.num.0 later.runs))
+            (union_until (truth query) tables (start query) (covered (start query) query.num.0 tables.runs)) moments (there ∙ union));
       }
 
   -- a query has covered no more than up to the moment
@@ -83,9 +83,10 @@ module _ (truth : QueryRow → Truth) (start : QueryRow → ℤ) (causal : (quer
       → Grown t tables later → Each (λ run. run.moment ≤ℤ t) tables.runs → Each (λ query. (query.arrival ≤ℤ t) × (start query ≤ℤ t)) queries
       → Each (IsKeptQuery truth start tables) queries → Each (IsKeptQuery truth start later) queries
   queries-later t tables later [] runs picks grown by starts each = tt
-  queries-later t tables later (query ∷ queries) runs picks grown by starts each =
-      (query-later t tables later query runs picks grown (covered-by t query tables.runs starts.0.1 by) each.0,
-        queries-later t tables later queries runs picks grown by starts.1 each.1)
+  queries-later t tables later (query ∷ queries) runs picks grown by starts each = (
+    query-later t tables later query runs picks grown (covered-by t query tables.runs starts.0.1 by) each.0,
+    queries-later t tables later queries runs picks grown by starts.1 each.1,
+  )
 
   -- the empty tables are kept
   pub kept-empty : IsKept truth start no_rows
@@ -114,8 +115,14 @@ module _ (truth : QueryRow → Truth) (start : QueryRow → ℤ) (causal : (quer
     runs = kept.runs;
     owned = kept.owned;
     picks = kept.picks;
-    each = queries-later t tables (after tables (OneNote note)) tables.queries refl refl (record { new_docs = []; new_notes = note ∷ [];
-            docs = sym (append-nil tables.docs); notes = refl; late_docs = tt; late_notes = (late, tt) }) by.runs by.queries kept.each;
+    each = queries-later t tables (after tables (OneNote note)) tables.queries refl refl (record {
+      new_docs = [];
+      new_notes = note ∷ [];
+      docs = sym (append-nil tables.docs);
+      notes = refl;
+      late_docs = tt;
+      late_notes = (late, tt);
+    }) by.runs by.queries kept.each;
   }
 
   -- a filter
@@ -140,14 +147,14 @@ module _ (truth : QueryRow → Truth) (start : QueryRow → ℤ) (causal : (quer
       → IsKeptQuery truth start (after tables (OneQuery query)) query
   query-new tables query kept is =
       let none : runs_of query.num.0 tables.runs ≡ [] = runs-none query.num.0 tables.runs
-          (subst (λ n. Each (λ run. run.query.0 < n) tables.runs) (sym is) (less (length tables.queries) tables.runs kept.owned)) in
+      (subst (λ n. Each (λ run. run.query.0 < n) tables.runs) (sym is) (less (length tables.queries) tables.runs kept.owned)) in
       let moments : run_moments query.num.0 tables.runs ≡ [] = ap (map (λ run. run.moment)) none in
       let picks : picks_of query.num.0 tables.picks ≡ [] =
-          no-picks query.num.0 (length tables.queries) tables.runs tables.picks (omega (arith, is)) kept.owned kept.picks in
+      no-picks query.num.0 (length tables.queries) tables.runs tables.picks (omega (arith, is)) kept.owned kept.picks in
       record {
         rising = subst (Rising (start query)) (sym moments) tt;
         box = ap (map (picked tables.runs)) picks ∙ sym (no-entries (run_moments query.num.0 tables.runs) (union_until (truth query)
-                (after tables (OneQuery query)) (start query) (covered (start query) query.num.0 tables.runs)) moments);
+            (after tables (OneQuery query)) (start query) (covered (start query) query.num.0 tables.runs)) moments);
       }
     where
       no-entries : (ms : List ℤ) (hits : List Hit) → ms ≡ [] → entries_from ms hits 1 ms ≡ []
@@ -164,7 +171,7 @@ module _ (truth : QueryRow → Truth) (start : QueryRow → ℤ) (causal : (quer
     picks = kept.picks;
     each = each-append (IsKeptQuery truth start (after tables (OneQuery query))) tables.queries (query ∷ [])
         (queries-later t tables (after tables (OneQuery query)) tables.queries refl refl
-          (grown-same t tables (after tables (OneQuery query)) refl refl) by.runs by.queries kept.each)
+        (grown-same t tables (after tables (OneQuery query)) refl refl) by.runs by.queries kept.each)
         (query-new tables query kept is, tt);
   } where
     longer : (n : ℕ) (queries : List QueryRow) (query : QueryRow) → n ≤ length queries → n ≤ length (queries ++ query ∷ [])
@@ -180,34 +187,34 @@ module _ (truth : QueryRow → Truth) (start : QueryRow → ℤ) (causal : (quer
       let picks = pick_rows (length tables.picks + 1) query.num (length tables.runs + 1) hits in
       let later = after tables (run_change (truth query) (start query) tables query.num t) in
       let moments : run_moments query.num.0 (tables.runs ++ run ∷ []) ≡ run_moments query.num.0 tables.runs ++ t ∷ [] =
-          moments-new query.num.0 tables.runs run refl in
+      moments-new query.num.0 tables.runs run refl in
       let place : run_ordinal run.num query.num.0 (tables.runs ++ run ∷ []) ≡ length (run_moments query.num.0 tables.runs) + 1 =
-          ordinal-new query.num.0 tables.runs run kept.runs refl refl in
+      ordinal-new query.num.0 tables.runs run kept.runs refl refl in
       let both : picks_of query.num.0 (tables.picks ++ picks) ≡ picks_of query.num.0 tables.picks ++ picks =
-          filter-append (λ pick. pick.query.0 == query.num.0) tables.picks picks ∙ ap (λ more. picks_of query.num.0 tables.picks ++ more)
-          (picks-all (length tables.picks + 1) query.num (length tables.runs + 1) hits) in
+      filter-append (λ pick. pick.query.0 == query.num.0) tables.picks picks ∙ ap (λ more. picks_of query.num.0 tables.picks ++ more)
+      (picks-all (length tables.picks + 1) query.num (length tables.runs + 1) hits) in
       let old : map (picked (tables.runs ++ run ∷ [])) (picks_of query.num.0 tables.picks) ≡ box_of (truth query) tables (start query)
-          query.num.0 = old-picks query.num.0 tables.runs run tables.picks kept.picks ∙ this.box in
+      query.num.0 = old-picks query.num.0 tables.runs run tables.picks kept.picks ∙ this.box in
       let new : map (picked (tables.runs ++ run ∷ [])) picks ≡ map (entry_at (length (run_moments query.num.0 tables.runs) + 1)) hits =
-          new-picks (tables.runs ++ run ∷ []) (length tables.picks + 1) query.num (length tables.runs + 1)
-          (length (run_moments query.num.0 tables.runs) + 1) hits place in
+      new-picks (tables.runs ++ run ∷ []) (length tables.picks + 1) query.num (length tables.runs + 1)
+      (length (run_moments query.num.0 tables.runs) + 1) hits place in
       let given : delivered query.num.0 later ≡ box_of (truth query) tables (start query) query.num.0
-          ++ map (entry_at (length (run_moments query.num.0 tables.runs) + 1)) hits =
+      ++ map (entry_at (length (run_moments query.num.0 tables.runs) + 1)) hits =
       ap (map (picked (tables.runs ++ run ∷ []))) both
-        ∙ map-append (picked (tables.runs ++ run ∷ [])) (picks_of query.num.0 tables.picks) picks ∙ parts _ _ _ _ old new in
+      ∙ map-append (picked (tables.runs ++ run ∷ [])) (picks_of query.num.0 tables.picks) picks ∙ parts _ _ _ _ old new in
       let box = box-after-run (truth query) tables (tables.runs ++ run ∷ []) (start query) query.num.0 t moments this.rising le in
       let union : union_until (truth query) later (start query) (covered (start query) query.num.0 (tables.runs ++ run ∷ []))
-          ≡ union_until (truth query) tables (start query) (covered (start query) query.num.0 (tables.runs ++ run ∷ [])) =
-          fresh-later (truth query) (covered (start query) query.num.0 (tables.runs ++ run ∷ [])) tables later (start query) (start query)
-          (covered (start query) query.num.0 (tables.runs ++ run ∷ [])) (causal query)
-          (grown-same (covered (start query) query.num.0 (tables.runs ++ run ∷ [])) tables later refl refl) (omega (arith, ints)) in
+      ≡ union_until (truth query) tables (start query) (covered (start query) query.num.0 (tables.runs ++ run ∷ [])) =
+      fresh-later (truth query) (covered (start query) query.num.0 (tables.runs ++ run ∷ [])) tables later (start query) (start query)
+      (covered (start query) query.num.0 (tables.runs ++ run ∷ [])) (causal query)
+      (grown-same (covered (start query) query.num.0 (tables.runs ++ run ∷ [])) tables later refl refl) (omega (arith, ints)) in
       record {
         rising =
             subst (Rising (start query)) (sym moments) (rising-more (start query) t (run_moments query.num.0 tables.runs) this.rising le);
         box = given ∙ sym box
             ∙ sym (entries-same (run_moments query.num.0 (tables.runs ++ run ∷ [])) (run_moments query.num.0 (tables.runs ++ run ∷ []))
-              (union_until (truth query) later (start query) (covered (start query) query.num.0 (tables.runs ++ run ∷ [])))
-              (union_until (truth query) tables (start query) (covered (start query) query.num.0 (tables.runs ++ run ∷ []))) refl union);
+            (union_until (truth query) later (start query) (covered (start query) query.num.0 (tables.runs ++ run ∷ [])))
+            (union_until (truth query) tables (start query) (covered (start query) query.num.0 (tables.runs ++ run ∷ []))) refl union);
       }
     where
       parts : (a a' b b' : List Entry) → a ≡ a' → b ≡ b' → a ++ b ≡ a' ++ b'
@@ -223,36 +230,37 @@ module _ (truth : QueryRow → Truth) (start : QueryRow → ℤ) (causal : (quer
       let picks = pick_rows (length tables.picks + 1) query.num (length tables.runs + 1) hits in
       let later = after tables (run_change (truth query) (start query) tables query.num t) in
       let moments : run_moments other.num.0 (tables.runs ++ run ∷ []) ≡ run_moments other.num.0 tables.runs =
-          moments-other other.num.0 tables.runs run differs in
+      moments-other other.num.0 tables.runs run differs in
       let until : covered (start other) other.num.0 (tables.runs ++ run ∷ []) ≡ covered (start other) other.num.0 tables.runs =
-          ap (last_or (start other)) moments in
+      ap (last_or (start other)) moments in
       let own : picks_of other.num.0 (tables.picks ++ picks) ≡ picks_of other.num.0 tables.picks =
-          filter-none (λ pick. pick.query.0 == other.num.0) tables.picks picks
-          (picks-none other.num.0 (length tables.picks + 1) query.num (length tables.runs + 1) hits differs) in
+      filter-none (λ pick. pick.query.0 == other.num.0) tables.picks picks
+      (picks-none other.num.0 (length tables.picks + 1) query.num (length tables.runs + 1) hits differs) in
       let given : delivered other.num.0 later ≡ delivered other.num.0 tables = ap (map (picked (tables.runs ++ run ∷ []))) own
-          ∙ old-picks other.num.0 tables.runs run tables.picks kept.picks in
+      ∙ old-picks other.num.0 tables.runs run tables.picks kept.picks in
       let there : union_until (truth other) later (start other) (covered (start other) other.num.0 (tables.runs ++ run ∷ []))
-          ≡ union_until (truth other) later (start other) (covered (start other) other.num.0 tables.runs) =
-          ap (union_until (truth other) later (start other)) until in
+      ≡ union_until (truth other) later (start other) (covered (start other) other.num.0 tables.runs) =
+      ap (union_until (truth other) later (start other)) until in
       let union : union_until (truth other) later (start other) (covered (start other) other.num.0 tables.runs)
-          ≡ union_until (truth other) tables (start other) (covered (start other) other.num.0 tables.runs) =
-          fresh-later (truth other) (covered (start other) other.num.0 tables.runs) tables later (start other) (start other)
-          (covered (start other) other.num.0 tables.runs) (causal other)
-          (grown-same (covered (start other) other.num.0 tables.runs) tables later refl refl) (omega (arith, ints)) in
+      ≡ union_until (truth other) tables (start other) (covered (start other) other.num.0 tables.runs) =
+      fresh-later (truth other) (covered (start other) other.num.0 tables.runs) tables later (start other) (start other)
+      (covered (start other) other.num.0 tables.runs) (causal other)
+      (grown-same (covered (start other) other.num.0 tables.runs) tables later refl refl) (omega (arith, ints)) in
       record {
         rising = subst (Rising (start other)) (sym moments) this.rising;
         box = given ∙ this.box ∙ sym (entries-same (run_moments other.num.0 (tables.runs ++ run ∷ [])) (run_moments other.num.0 tables.runs)
-              (union_until (truth other) later (start other) (covered (start other) other.num.0 (tables.runs ++ run ∷ [])))
-              (union_until (truth other) tables (start other) (covered (start other) other.num.0 tables.runs)) moments (there ∙ union));
+            (union_until (truth other) later (start other) (covered (start other) other.num.0 (tables.runs ++ run ∷ [])))
+            (union_until (truth other) tables (start other) (covered (start other) other.num.0 tables.runs)) moments (there ∙ union));
       }
 
   queries-above : (t : ℤ) (tables : Tables) (query : QueryRow) (k : ℕ) (queries : List QueryRow) → IsKept truth start tables
       → QueriesFrom k queries → query.num.0 < k → Each (IsKeptQuery truth start tables) queries
       → Each (IsKeptQuery truth start (after tables (run_change (truth query) (start query) tables query.num t))) queries
   queries-above t tables query k [] kept from lt each = tt
-  queries-above t tables query k (other ∷ queries) kept from lt each =
-      (query-other t tables query other kept (λ e. absurd (omega (arith, e, from.0))) each.0,
-        queries-above t tables query (suc k) queries kept from.1 (omega arith) each.1)
+  queries-above t tables query k (other ∷ queries) kept from lt each = (
+    query-other t tables query other kept (λ e. absurd (omega (arith, e, from.0))) each.0,
+    queries-above t tables query (suc k) queries kept from.1 (omega arith) each.1,
+  )
 
   queries-run : (t : ℤ) (tables : Tables) (query : QueryRow) (k : ℕ) (queries : List QueryRow) → IsKept truth start tables
       → covered (start query) query.num.0 tables.runs ≤ℤ t → QueriesFrom k queries → In query queries
@@ -261,14 +269,15 @@ module _ (truth : QueryRow → Truth) (start : QueryRow → ℤ) (causal : (quer
   queries-run t tables query k [] kept le from has each = tt
   queries-run t tables query k (other ∷ queries) kept le from (inl e) each = (
     subst (λ row. IsKeptQuery truth start (after tables (run_change (truth query) (start query) tables query.num t)) row) e
-      (query-run t tables query kept le (subst (λ row. IsKeptQuery truth start tables row) (sym e) each.0)),
+        (query-run t tables query kept le (subst (λ row. IsKeptQuery truth start tables row) (sym e) each.0)),
     queries-above t tables query (suc k) queries kept
         from.1 (let is : query.num.0 ≡ k = ap (λ row. row.num.0) e ∙ from.0 in omega (arith, is)) each.1,
   )
   queries-run t tables query k (other ∷ queries) kept le from (inr h) each =
-      let bounds = query-bounds (suc k) queries query from.1 h in
-      (query-other t tables query other kept (λ e. absurd (omega (arith, e, from.0, bounds.0))) each.0,
-        queries-run t tables query (suc k) queries kept le from.1 h each.1)
+      let bounds = query-bounds (suc k) queries query from.1 h in (
+        query-other t tables query other kept (λ e. absurd (omega (arith, e, from.0, bounds.0))) each.0,
+        queries-run t tables query (suc k) queries kept le from.1 h each.1,
+      )
 
   start-by : (t : ℤ) (query : QueryRow) (queries : List QueryRow) → In query queries
       → Each (λ query. (query.arrival ≤ℤ t) × (start query ≤ℤ t)) queries → start query ≤ℤ t
@@ -289,11 +298,11 @@ module _ (truth : QueryRow → Truth) (start : QueryRow → ℤ) (causal : (quer
         owned = each-append (λ run. run.query.0 ≤ length tables.queries) tables.runs (run ∷ []) kept.owned (omega (arith, bounds.1), tt);
         picks =
             each-append (λ pick. HasRun pick.run pick.query.0 (tables.runs ++ run ∷ [])) tables.picks (pick_rows (length tables.picks + 1)
-              query.num (length tables.runs + 1) (run_hits (truth query) (start query) tables query.num.0 t))
+            query.num (length tables.runs + 1) (run_hits (truth query) (start query) tables query.num.0 t))
             (each-map (λ pick. HasRun pick.run pick.query.0 tables.runs) (λ pick. HasRun pick.run pick.query.0 (tables.runs ++ run ∷ []))
-              tables.picks (λ pick h. run-stays pick.run pick.query.0 tables.runs (run ∷ []) h) kept.picks)
+            tables.picks (λ pick h. run-stays pick.run pick.query.0 tables.runs (run ∷ []) h) kept.picks)
             (picks-have-run (tables.runs ++ run ∷ []) (length tables.picks + 1) query.num (length tables.runs + 1)
-              (run_hits (truth query) (start query) tables query.num.0 t) (run-last tables.runs run));
+            (run_hits (truth query) (start query) tables query.num.0 t) (run-last tables.runs run));
         each = queries-run t tables query 1 tables.queries kept
             (covered-by t query tables.runs (start-by t query tables.queries has by.queries) by.runs) kept.queries has kept.each;
       }

@@ -50,13 +50,13 @@ docs-kept : (t s : ℤ) (tables later : Tables) → Grown t tables later → s <
 docs-kept t s tables later grown lt =
     rw grown.docs (filter-none (λ doc. int_le doc.arrival s) tables.docs grown.new_docs
     (each-map (λ doc. t ≤ℤ doc.arrival) (λ doc. int_le doc.arrival s ≡ false) grown.new_docs (λ doc h. hidden doc.arrival s t h lt)
-      grown.late_docs))
+    grown.late_docs))
 
 notes-kept : (t s : ℤ) (tables later : Tables) → Grown t tables later → s <ℤ t → (visible later s).notes ≡ (visible tables s).notes
 notes-kept t s tables later grown lt =
     rw grown.notes (filter-none (λ note. int_le note.arrival s) tables.notes grown.new_notes
     (each-map (λ note. t ≤ℤ note.arrival) (λ note. int_le note.arrival s ≡ false) grown.new_notes (λ note h. hidden note.arrival s t h lt)
-      grown.late_notes))
+    grown.late_notes))
 
 -- a document that was there keeps its first second below t
 pub first-later : (truth : Truth) (t : ℤ) (tables later : Tables) (doc : Doc) (start until : ℤ) → IsOfTheSecond truth → Grown t tables later
@@ -65,7 +65,7 @@ first-later truth t tables later doc start until causal grown le =
     least_second-same (is_given truth later doc) (is_given truth tables doc) start until (λ x lo hi.
     let before : x <ℤ t = omega (arith, ints) in
     ap (λ b. int_le doc.arrival x && b)
-      (causal tables later doc x (docs-kept t x tables later grown before) (notes-kept t x tables later grown before)))
+    (causal tables later doc x (docs-kept t x tables later grown before) (notes-kept t x tables later grown before)))
 
 -- a document that came later has none
 pub first-new : (truth : Truth) (tables : Tables) (doc : Doc) (start until : ℤ) → until ≤ℤ doc.arrival
@@ -84,8 +84,10 @@ hits-later : (truth : Truth) (t : ℤ) (tables later : Tables) (start tau until 
     ≡ filter_map (λ doc. hit_of doc (at_least tau (first_second truth tables doc start until))) docs
 hits-later truth t tables later start tau until [] causal grown le = refl
 hits-later truth t tables later start tau until (doc ∷ docs) causal grown le =
-    rw (first-later truth t tables later doc start until causal grown le,
-        hits-later truth t tables later start tau until docs causal grown le) refl
+    rw (
+      first-later truth t tables later doc start until causal grown le,
+      hits-later truth t tables later start tau until docs causal grown le,
+    ) refl
 
 -- documents without a hit at the end add none
 no-more : (hit : Doc → Option Hit) (all docs new : List Doc) → all ≡ docs ++ new → filter_map hit new ≡ []
@@ -98,9 +100,9 @@ pub fresh-later : (truth : Truth) (t : ℤ) (tables later : Tables) (start tau u
 fresh-later truth t tables later start tau until causal grown le =
     let none : filter_map (λ doc. hit_of doc (at_least tau (first_second truth later doc start until))) grown.new_docs ≡ [] =
     hits-new truth later start tau until grown.new_docs
-      (each-map (λ doc. t ≤ℤ doc.arrival) (λ doc. until ≤ℤ doc.arrival) grown.new_docs (λ doc h. omega (arith, ints)) grown.late_docs) in
+    (each-map (λ doc. t ≤ℤ doc.arrival) (λ doc. until ≤ℤ doc.arrival) grown.new_docs (λ doc h. omega (arith, ints)) grown.late_docs) in
     let same : filter_map (λ doc. hit_of doc (at_least tau (first_second truth later doc start until))) later.docs
-        ≡ filter_map (λ doc. hit_of doc (at_least tau (first_second truth tables doc start until))) tables.docs =
+    ≡ filter_map (λ doc. hit_of doc (at_least tau (first_second truth tables doc start until))) tables.docs =
     no-more (λ doc. hit_of doc (at_least tau (first_second truth later doc start until)))
-      later.docs tables.docs grown.new_docs grown.docs none ∙ hits-later truth t tables later start tau until tables.docs causal grown le in
+    later.docs tables.docs grown.new_docs grown.docs none ∙ hits-later truth t tables later start tau until tables.docs causal grown le in
     ap hits_in_order same

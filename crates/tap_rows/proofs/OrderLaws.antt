@@ -56,7 +56,7 @@ put_in-fails : (test : Hit → Bool) (hit : Hit) (hits : List Hit) → test hit 
 put_in-fails test hit [] fails = rw fails refl
 put_in-fails test hit (other ∷ hits) fails =
     elim (is_before hit other)
-      as (λ b. filter test (if b then hit ∷ other ∷ hits else other ∷ put_in hit hits) ≡ filter test (other ∷ hits)) [
+    as (λ b. filter test (if b then hit ∷ other ∷ hits else other ∷ put_in hit hits) ≡ filter test (other ∷ hits)) [
       | true ↦ rw fails refl
       | false ↦ rw (put_in-fails test hit hits fails) refl
     ]
@@ -69,20 +69,20 @@ put_in-passes test hit (other ∷ hits) passes order = go (is_before hit other) 
   go : (b : Bool) → is_before hit other ≡ b → filter test (put_in hit hits) ≡ put_in hit (filter test hits)
       → filter test (put_in hit (other ∷ hits)) ≡ put_in hit (filter test (other ∷ hits))
   go true e rest = rw (e, passes) (sym
-        (put_in-front hit (filter test (other ∷ hits)) (AllAfter-filter test hit (other ∷ hits) (e, after-all hit other hits e order.0))))
+      (put_in-front hit (filter test (other ∷ hits)) (AllAfter-filter test hit (other ∷ hits) (e, after-all hit other hits e order.0))))
   go false e rest = rw e (elim (test other) as (λ b. (if b then other ∷ filter test (put_in hit hits) else filter test (put_in hit hits))
-          ≡ put_in hit (if b then other ∷ filter test hits else filter test hits)) [
-    | true ↦ rw (e, rest) refl
-    | false ↦ rest
-  ])
+      ≡ put_in hit (if b then other ∷ filter test hits else filter test hits)) [
+        | true ↦ rw (e, rest) refl
+        | false ↦ rest
+      ])
 
 NoneBefore-put_in : (x hit : Hit) (hits : List Hit) → is_before hit x ≡ false → NoneBefore x hits → NoneBefore x (put_in hit hits)
 NoneBefore-put_in x hit [] no_before none = (no_before, tt)
 NoneBefore-put_in x hit (other ∷ hits) no_before none =
     elim (is_before hit other) as (λ b. NoneBefore x (if b then hit ∷ other ∷ hits else other ∷ put_in hit hits)) [
-  | true ↦ (no_before, (none.0, none.1))
-  | false ↦ (none.0, NoneBefore-put_in x hit hits no_before none.1)
-]
+      | true ↦ (no_before, (none.0, none.1))
+      | false ↦ (none.0, NoneBefore-put_in x hit hits no_before none.1)
+    ]
 
 NoneBefore-from : (hit : Hit) (hits : List Hit) → AllAfter hit hits → NoneBefore hit hits
 unfolding before

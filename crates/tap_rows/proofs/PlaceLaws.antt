@@ -31,7 +31,7 @@ place-stays num query (run ∷ runs) new has =
       | inl y ↦ elim (cases_Bool (run.num == num)) [
         | inl yes' ↦ rw (y, yes') refl
         | inr no' ↦ rw (y, no') (ap (λ n. 1 + n) (place-stays num query runs new
-              (elim has [ inl e ↦ absurd (both_ways (run.num == num) no' (same-yes run.num num e.0)) | inr h ↦ h ])))
+            (elim has [ inl e ↦ absurd (both_ways (run.num == num) no' (same-yes run.num num e.0)) | inr h ↦ h ])))
       ]
       | inr n ↦ rw n (place-stays num query runs new
           (elim has [ inl e ↦ absurd (both_ways (run.query.0 == query) n (same-yes run.query.0 query e.1)) | inr h ↦ h ]))
@@ -65,7 +65,7 @@ pub moments-new : (query : ℕ) (runs : List RunRow) (new : RunRow) → new.quer
     → run_moments query (runs ++ new ∷ []) ≡ run_moments query runs ++ new.moment ∷ []
 moments-new query runs new of =
     rw (filter-append (λ run. run.query.0 == query) runs (new ∷ []), same-yes new.query.0 query of)
-      (map-append (λ run. run.moment) (runs_of query runs) (new ∷ []))
+    (map-append (λ run. run.moment) (runs_of query runs) (new ∷ []))
 
 pub moments-other : (query : ℕ) (runs : List RunRow) (new : RunRow) → (new.query.0 ≡ query → ⊥)
     → run_moments query (runs ++ new ∷ []) ≡ run_moments query runs

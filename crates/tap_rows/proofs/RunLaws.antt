@@ -65,8 +65,12 @@ old-hits ms low t run (hit ∷ hits) rising le within =
     (λ lt. let early = run-early low hit.first t ms rising within.0 lt in
     rw (above hit.first (last_or low ms) lt, early.0, old-hits ms low t run hits rising le within.2) refl)
     (λ ge. let late = run-late low hit.first t ms rising ge within.1 in
-    rw (not-above hit.first (last_or low ms) ge, late, less run (length ms + 1) (omega arith),
-        old-hits ms low t run hits rising le within.2) refl)
+    rw (
+      not-above hit.first (last_or low ms) ge,
+      late,
+      less run (length ms + 1) (omega arith),
+      old-hits ms low t run hits rising le within.2,
+    ) refl)
 
 le-yes : (a s : ℤ) → a ≤ℤ s → int_le a s ≡ true
 le-yes a s h = grind (arith, ints)
@@ -81,8 +85,12 @@ new-hits ms low t [] rising within = refl
 new-hits ms low t (hit ∷ hits) rising within =
     by_lt_z hit.first (last_or low ms)
     (λ lt. let early = run-early low hit.first t ms rising within.0 lt in
-    rw (le-not (last_or low ms) hit.first lt, early.0, more (run_of hit.first ms) (length ms + 1) (omega (arith, early.1)),
-        new-hits ms low t hits rising within.2) refl)
+    rw (
+      le-not (last_or low ms) hit.first lt,
+      early.0,
+      more (run_of hit.first ms) (length ms + 1) (omega (arith, early.1)),
+      new-hits ms low t hits rising within.2,
+    ) refl)
     (λ ge. let late = run-late low hit.first t ms rising ge within.1 in
     rw (le-yes (last_or low ms) hit.first ge, late, same (length ms + 1), new-hits ms low t hits rising within.2) refl)
 
@@ -93,7 +101,7 @@ entries_from-append mm hits k [] m = rw (zero_more k) (append-nil (entries_of mm
   zero_more k = omega arith
 entries_from-append mm hits k (n ∷ ms) m =
     rw (entries_from-append mm hits (k + 1) ms m, shift k (length ms))
-      (sym (append_assoc (entries_of mm hits k) (entries_from mm hits (k + 1) ms) (entries_of mm hits (k + 1 + length ms)))) where
+    (sym (append_assoc (entries_of mm hits k) (entries_from mm hits (k + 1) ms) (entries_of mm hits (k + 1 + length ms)))) where
       shift : (k n : ℕ) → k + suc n ≡ k + 1 + n
       shift k n = omega arith
 
@@ -110,9 +118,12 @@ box-more : (ms : List ℤ) (low t : ℤ) (hits : List Hit) → Rising low ms →
     ++ map (entry_at (length ms + 1)) (filter (is_from (last_or low ms)) hits)
 box-more ms low t hits rising within =
     entries_from-append (ms ++ t ∷ []) hits 1 ms t
-    ∙ rw (entries_from-same (ms ++ t ∷ []) ms hits (filter (is_earlier (last_or low ms)) hits) (length ms)
-          (λ run le. ap (map (entry_at run)) (old-hits ms low t run hits rising le within)) 1 ms (omega arith), one_more (length ms),
-          new-hits ms low t hits rising within) refl where
+    ∙ rw (
+      entries_from-same (ms ++ t ∷ []) ms hits (filter (is_earlier (last_or low ms)) hits) (length ms)
+          (λ run le. ap (map (entry_at run)) (old-hits ms low t run hits rising le within)) 1 ms (omega arith),
+      one_more (length ms),
+      new-hits ms low t hits rising within,
+    ) refl where
       one_more : (n : ℕ) → 1 + n ≡ n + 1
       one_more n = omega arith
 
@@ -127,9 +138,9 @@ put_in-within : (low t : ℤ) (hit : Hit) (hits : List Hit) → low ≤ℤ hit.f
 put_in-within low t hit [] lo hi within = (lo, hi, tt)
 put_in-within low t hit (other ∷ hits) lo hi within =
     elim (is_before hit other) as (λ b. Within low t (if b then hit ∷ other ∷ hits else other ∷ put_in hit hits)) [
-  | true ↦ (lo, hi, within)
-  | false ↦ (within.0, within.1, put_in-within low t hit hits lo hi within.2)
-]
+      | true ↦ (lo, hi, within)
+      | false ↦ (within.0, within.1, put_in-within low t hit hits lo hi within.2)
+    ]
 
 in_order-within : (low t : ℤ) (hits : List Hit) → Within low t hits → Within low t (hits_in_order hits)
 in_order-within low t [] within = tt
@@ -141,9 +152,9 @@ found-within : (start tau t : ℤ) (doc : Doc) (found : Option ℤ) (hits : List
 found-within start tau t doc None hits w rest = rest
 found-within start tau t doc (Some f) hits w rest =
     elim (int_le tau f) as (λ b. Within start t (cons_option (hit_of doc (if b then Some f else None)) hits)) [
-  | true ↦ ((w f refl).0, (w f refl).1, rest)
-  | false ↦ rest
-]
+      | true ↦ ((w f refl).0, (w f refl).1, rest)
+      | false ↦ rest
+    ]
 
 hits-within : (truth : Truth) (tables : Tables) (start tau t : ℤ) (docs : List Doc)
     → Within start t (filter_map (λ doc. hit_of doc (at_least tau (first_second truth tables doc start t))) docs)
@@ -164,6 +175,10 @@ pub box-after-run : (truth : Truth) (tables : Tables) (runs : List RunRow) (star
     ≡ box_of truth tables start query
     ++ map (entry_at (length (run_moments query tables.runs) + 1)) (fresh_in truth tables start (covered start query tables.runs) t)
 box-after-run truth tables runs start query t more rising le =
-    rw (more, last-more start t (run_moments query tables.runs), fresh-part truth tables start (covered start query tables.runs) t,
-        union-part truth tables start (covered start query tables.runs) t (rising-le start (run_moments query tables.runs) rising) le)
+    rw (
+      more,
+      last-more start t (run_moments query tables.runs),
+      fresh-part truth tables start (covered start query tables.runs) t,
+      union-part truth tables start (covered start query tables.runs) t (rising-le start (run_moments query tables.runs) rising) le,
+    )
     (box-more (run_moments query tables.runs) start t (union_until truth tables start t) rising (fresh-within truth tables start start t))

@@ -44,7 +44,7 @@ pub first_from-never : (p : ℤ → Bool) (n : ℕ) (a : ℤ) → ((x : ℤ) →
 first_from-never p zero a h = refl
 first_from-never p (suc n) a h =
     rw (h a (omega (arith, ints)) (omega (arith, ints)))
-      (first_from-never p n (a +ℤ pos 1) (λ x lo hi. h x (omega (arith, ints)) (omega (arith, ints))))
+    (first_from-never p n (a +ℤ pos 1) (λ x lo hi. h x (omega (arith, ints)) (omega (arith, ints))))
 
 -- the least second at which it holds is found
 pub first_from-is : (p : ℤ → Bool) (n : ℕ) (a s : ℤ) → a ≤ℤ s → s <ℤ (a +ℤ pos n) → p s ≡ true → ((x : ℤ) → a ≤ℤ x → x <ℤ s → p x ≡ false)
@@ -53,7 +53,7 @@ first_from-is p zero a s lo hi here before = absurd (omega (arith, ints))
 first_from-is p (suc n) a s lo hi here before =
     by_lt_z a s
     (λ w. rw (before a (omega (arith, ints)) w)
-      (first_from-is p n (a +ℤ pos 1) s (omega (arith, ints)) (omega (arith, ints)) here (λ x l h. before x (omega (arith, ints)) h)))
+    (first_from-is p n (a +ℤ pos 1) s (omega (arith, ints)) (omega (arith, ints)) here (λ x l h. before x (omega (arith, ints)) h)))
     (λ w. let e : a ≡ s = omega (arith, ints) in let y : p a ≡ true = ap p e ∙ here in rw y (ap Some e))
 
 -- tests that agree on the seconds tried
@@ -61,8 +61,10 @@ pub first_from-same : (p q : ℤ → Bool) (n : ℕ) (a : ℤ) → ((x : ℤ) �
     → first_from p n a ≡ first_from q n a
 first_from-same p q zero a h = refl
 first_from-same p q (suc n) a h =
-    rw (h a (omega (arith, ints)) (omega (arith, ints)),
-        first_from-same p q n (a +ℤ pos 1) (λ x lo hi. h x (omega (arith, ints)) (omega (arith, ints))))
+    rw (
+      h a (omega (arith, ints)) (omega (arith, ints)),
+      first_from-same p q n (a +ℤ pos 1) (λ x lo hi. h x (omega (arith, ints)) (omega (arith, ints))),
+    )
 
 -- more seconds: what was found first, or else what is found among the others
 pub first_from-more : (p : ℤ → Bool) (n k : ℕ) (a b : ℤ) → b ≡ a +ℤ pos n

@@ -60,7 +60,7 @@ hits-part truth tables start tau t (doc ∷ docs) = rw (hits-part truth tables s
 pub fresh-part : (truth : Truth) (tables : Tables) (start tau t : ℤ)
     → fresh_in truth tables start tau t ≡ filter (is_from tau) (union_until truth tables start t)
 fresh-part truth tables start tau t = rw (hits-part truth tables start tau t tables.docs) (sym
-      (in_order-filter (is_from tau) (filter_map (λ doc. hit_of doc (at_least start (first_second truth tables doc start t))) tables.docs)))
+    (in_order-filter (is_from tau) (filter_map (λ doc. hit_of doc (at_least start (first_second truth tables doc start t))) tables.docs)))
 
 -- with fewer seconds the same is found, or nothing
 earlier-found : (start last : ℤ) (doc : Doc) (found more : Option ℤ) (hits : List Hit)
@@ -77,7 +77,7 @@ hit-earlier : (truth : Truth) (tables : Tables) (start last t : ℤ) (doc : Doc)
 hit-earlier truth tables start last t doc hits from le =
     rw (least_second-more (is_given truth tables doc) start last t from le)
     (earlier-found start last doc (least_second (is_given truth tables doc) start last) (least_second (is_given truth tables doc) last t)
-      hits
+    hits
     (λ f e. least_second-within (is_given truth tables doc) start last f e)
     (λ f e. let w = least_second-within (is_given truth tables doc) last t f e in (omega (arith, ints, w.0), w.0)))
 
@@ -87,11 +87,11 @@ hits-earlier : (truth : Truth) (tables : Tables) (start last t : ℤ) (docs : Li
 hits-earlier truth tables start last t [] from le = refl
 hits-earlier truth tables start last t (doc ∷ docs) from le =
     rw (hits-earlier truth tables start last t docs from le) (hit-earlier truth tables start last t doc
-        (filter_map (λ d. hit_of d (at_least start (first_second truth tables d start t))) docs) from le)
+    (filter_map (λ d. hit_of d (at_least start (first_second truth tables d start t))) docs) from le)
 
 -- the union up to an earlier second is the part of the union before it
 pub union-part : (truth : Truth) (tables : Tables) (start last t : ℤ) → start ≤ℤ last → last ≤ℤ t
     → union_until truth tables start last ≡ filter (is_earlier last) (union_until truth tables start t)
 union-part truth tables start last t from le =
     rw (hits-earlier truth tables start last t tables.docs from le) (sym (in_order-filter (is_earlier last)
-        (filter_map (λ doc. hit_of doc (at_least start (first_second truth tables doc start t))) tables.docs)))
+    (filter_map (λ doc. hit_of doc (at_least start (first_second truth tables doc start t))) tables.docs)))

@@ -46,4 +46,4 @@ next_run tables query moment = record { num = length tables.runs + 1; query = qu
 abbrev pub run_change : Truth → ℤ → Tables → QueryNum → ℤ → Change
 run_change truth start tables query moment =
     RunDone (next_run tables query moment)
-      (pick_rows (length tables.picks + 1) query (length tables.runs + 1) (run_hits truth start tables query.0 moment))
+    (pick_rows (length tables.picks + 1) query (length tables.runs + 1) (run_hits truth start tables query.0 moment))

@@ -109,4 +109,4 @@ entries_from moments hits run (m ∷ ms) = entries_of moments hits run ++ entrie
 abbrev pub box_of : Truth → Tables → ℤ → ℕ → List Entry
 box_of truth tables start query =
     entries_from (run_moments query tables.runs) (union_until truth tables start (covered start query tables.runs)) 1
-      (run_moments query tables.runs)
+    (run_moments query tables.runs)

@@ -45,7 +45,7 @@ has_arrived docs num moment = is_row (λ doc. int_le doc.arrival moment) (row_at
 abbrev pub note_stands : List Doc → ℕ → ℤ → Note → Bool
 note_stands docs place low note =
     (note.num.0 == place) && may_follow low note.arrival && has_arrived docs note.doc.0 note.arrival && is_name note.author
-      && is_name note.kind
+    && is_name note.kind
 
 -- the notes from this place on, behind a moment `low`
 abbrev pub notes_stand : List Doc → ℕ → ℤ → List Note → Bool
@@ -127,4 +127,4 @@ abbrev pub is_well_formed : Tables → Bool
 is_well_formed tables =
     docs_stand 1 (pos 0) tables.docs && notes_stand tables.docs 1 (pos 0) tables.notes && queries_stand [] 1 (pos 0) tables.queries
     && runs_stand tables.queries 1 (pos 0) tables.runs && picks_stand tables.runs tables.docs [] 1 None tables.picks
-      && filters_stand 1 (pos 0) tables.filters
+    && filters_stand 1 (pos 0) tables.filters

@@ -162,7 +162,7 @@ fn is_repeated(pick: &Pick, earlier: &[Pick]) -> bool
 // Returns whether the pick comes after the one before, by first second and document.
 fn is_later(before: &Pick, pick: &Pick) -> bool
     ensures { result ≡ (int_lt before.now.first pick.now.first
-          || (int_le before.now.first pick.now.first && nat_lt before.now.doc.0 pick.now.doc.0)) }
+        || (int_le before.now.first pick.now.first && nat_lt before.now.doc.0 pick.now.doc.0)) }
 {
     before.first < pick.first || (before.first <= pick.first && before.doc.0 < pick.doc.0)
 }

@@ -46,24 +46,54 @@ OnlyAdds-then t t1 t2 one two = record {
 after-adds : (t : Tables) (change : Change) → OnlyAdds t (after t change)
 after-adds t (Docs docs) =
     let none = OnlyAdds-none t in
-    record { docs = more-rows t.docs docs; notes = none.notes; queries = none.queries; runs = none.runs; picks = none.picks;
-          filters = none.filters }
+    record {
+      docs = more-rows t.docs docs;
+      notes = none.notes;
+      queries = none.queries;
+      runs = none.runs;
+      picks = none.picks;
+      filters = none.filters;
+    }
 after-adds t (OneNote note) =
     let none = OnlyAdds-none t in
-    record { docs = none.docs; notes = more-rows t.notes (note ∷ []); queries = none.queries; runs = none.runs; picks = none.picks;
-          filters = none.filters }
+    record {
+      docs = none.docs;
+      notes = more-rows t.notes (note ∷ []);
+      queries = none.queries;
+      runs = none.runs;
+      picks = none.picks;
+      filters = none.filters;
+    }
 after-adds t (OneQuery query) =
     let none = OnlyAdds-none t in
-    record { docs = none.docs; notes = none.notes; queries = more-rows t.queries (query ∷ []); runs = none.runs; picks = none.picks;
-          filters = none.filters }
+    record {
+      docs = none.docs;
+      notes = none.notes;
+      queries = more-rows t.queries (query ∷ []);
+      runs = none.runs;
+      picks = none.picks;
+      filters = none.filters;
+    }
 after-adds t (RunDone run picks) =
     let none = OnlyAdds-none t in
-    record { docs = none.docs; notes = none.notes; queries = none.queries; runs = more-rows t.runs (run ∷ []);
-          picks = more-rows t.picks picks; filters = none.filters }
+    record {
+      docs = none.docs;
+      notes = none.notes;
+      queries = none.queries;
+      runs = more-rows t.runs (run ∷ []);
+      picks = more-rows t.picks picks;
+      filters = none.filters;
+    }
 after-adds t (OneFilter filter) =
     let none = OnlyAdds-none t in
-    record { docs = none.docs; notes = none.notes; queries = none.queries; runs = none.runs; picks = none.picks;
-          filters = more-rows t.filters (filter ∷ []) }
+    record {
+      docs = none.docs;
+      notes = none.notes;
+      queries = none.queries;
+      runs = none.runs;
+      picks = none.picks;
+      filters = more-rows t.filters (filter ∷ []);
+    }
 
 answer-adds : (t : Tables) (change : Option Change) → OnlyAdds t (tables_after change t)
 answer-adds t None = OnlyAdds-none t
@@ -93,5 +123,5 @@ chain-adds t last [] chain = subst (OnlyAdds t) (sym chain) (OnlyAdds-none t)
 chain-adds t last (session ∷ sessions) chain =
     let front = chain.1 in
     OnlyAdds-then t chain.0 last
-      (story-adds t _ (take front.k session.commands) (take front.k session.replies) chain.0 front.session front.story)
+    (story-adds t _ (take front.k session.commands) (take front.k session.replies) chain.0 front.session front.story)
     (chain-adds chain.0 last sessions chain.2)

@@ -73,8 +73,8 @@ cut-said rs r front back split =
     let but : length (rs ++ r ∷ []) - 1 ≡ length rs = omega arith in
     let last : flat_map reply_bytes (r ∷ []) ≡ front ++ back = append-nil (reply_bytes r) ∙ sym split in
     let firsts : take (length (rs ++ r ∷ []) - 1) (rs ++ r ∷ []) ≡ rs = ap (λ n. take n (rs ++ r ∷ [])) but
-        ∙ take-append_seam rs (r ∷ []) in
-        record {
+    ∙ take-append_seam rs (r ∷ []) in
+    record {
       rest = back;
       front = flat_map-append reply_bytes rs (r ∷ []) ∙ ap (λ xs. all ++ xs) last ∙ sym (append_assoc all front back);
       most = record { rest = front; is = ap (λ qs. flat_map reply_bytes qs ++ front) (sym firsts) };
@@ -112,8 +112,8 @@ pub none-leaves : (t : Tables) (left left' out out' : Option (List ℕ)) (versio
     → ((x : Tables) → leaves x → x ≡ t) → LeavesPrefix t left left' out out' versions leaves
 none-leaves t left left' out out' versions leaves written unread put said exact =
     story-leaves t left left' out out' versions leaves [] [] [] t no_session written
-        (subst (λ l. Consumes left l []) (sym unread) (Consumes-none left))
-        (inl (record { rest = complete (take SCRIPT_LIMIT []); is = refl })) (refl, refl) put said exact
+    (subst (λ l. Consumes left l []) (sym unread) (Consumes-none left))
+    (inl (record { rest = complete (take SCRIPT_LIMIT []); is = refl })) (refl, refl) put said exact
 
 pub nothing-leaves : (t : Tables) (left left' out out' : Option (List ℕ)) (versions : ℤ → Type 0) (leaves : Tables → Type 0) → left' ≡ left
     → out' ≡ out → ((x : Tables) → leaves x → x ≡ t) → LeavesPrefix t left left' out out' versions leaves
@@ -135,21 +135,24 @@ whole-leaves : (t : Tables) (left left' out out' : Option (List ℕ)) (versions 
     → Whole t left left' out out' (IsDurable tells leaves) ok → LeavesPrefix t left left' out out' versions leaves
 whole-leaves t left left' out out' versions tells leaves ok run =
     answered-leaves t left left' out out' versions tells leaves run.bytes (script run.bytes) run.session ok
-      run.taken (inr (run.ended, subst (λ xs. IsPrefix (script run.bytes) (script xs)) (sym (same-front SCRIPT_LIMIT run.bytes run.fits))
-          (all-of (script run.bytes)))) run.answered
+    run.taken (inr (
+      run.ended,
+      subst (λ xs. IsPrefix (script run.bytes) (script xs)) (sym (same-front SCRIPT_LIMIT run.bytes run.fits))
+          (all-of (script run.bytes)),
+    )) run.answered
 
 read-leaves : (t : Tables) (left left' out out' : Option (List ℕ)) (versions : ℤ → Type 0) (tells leaves : Tables → Type 0)
     → ReadCut t left left' out out' (IsDurable tells leaves) → LeavesPrefix t left left' out out' versions leaves
 read-leaves t left left' out out' versions tells leaves run =
     answered-leaves t left left' out out' versions tells leaves run.bytes (complete run.bytes)
-      run.session run.all_ok run.taken (inl (subst (λ xs. IsPrefix (complete run.bytes) (complete xs))
-          (sym (same-front SCRIPT_LIMIT run.bytes run.fits)) (all-of (complete run.bytes)))) run.answered
+    run.session run.all_ok run.taken (inl (subst (λ xs. IsPrefix (complete run.bytes) (complete xs))
+    (sym (same-front SCRIPT_LIMIT run.bytes run.fits)) (all-of (complete run.bytes)))) run.answered
 
 long-leaves : (t : Tables) (left left' out out' : Option (List ℕ)) (versions : ℤ → Type 0) (tells leaves : Tables → Type 0)
     → TooLong t left left' out out' (IsDurable tells leaves) → LeavesPrefix t left left' out out' versions leaves
 long-leaves t left left' out out' versions tells leaves run =
     answered-leaves t left left' out out' versions tells leaves run.long.bytes (complete (take SCRIPT_LIMIT run.long.bytes))
-      run.session run.all_ok run.long.taken (inl (all-of (complete (take SCRIPT_LIMIT run.long.bytes)))) run.answered
+    run.session run.all_ok run.long.taken (inl (all-of (complete (take SCRIPT_LIMIT run.long.bytes)))) run.answered
 
 memory-leaves : (t : Tables) (left left' out out' : Option (List ℕ)) (versions : ℤ → Type 0) (tells leaves : Tables → Type 0)
     → OutOfMemory t left left' out out' (IsDurable tells leaves) → LeavesPrefix t left left' out out' versions leaves
@@ -161,9 +164,9 @@ put-leaves : (t : Tables) (left left' out out' : Option (List ℕ)) (versions : 
 put-leaves t left left' out out' versions tells leaves run =
     let cut = run.cut in
     story-leaves t left left' out out' versions leaves run.bytes (run.done ++ run.last ∷ []) (cut.replies ++ cut.reply ∷ [])
-      cut.tables' cut.session' (flat_map reply_bytes cut.replies ++ take cut.n (reply_bytes cut.reply))
-      run.taken run.first cut.story cut.written (λ v has known. cut-said cut.replies cut.reply (take cut.n (reply_bytes cut.reply))
-        (drop cut.n (reply_bytes cut.reply)) (take-append-drop cut.n (reply_bytes cut.reply))) cut.ends.exact
+    cut.tables' cut.session' (flat_map reply_bytes cut.replies ++ take cut.n (reply_bytes cut.reply))
+    run.taken run.first cut.story cut.written (λ v has known. cut-said cut.replies cut.reply (take cut.n (reply_bytes cut.reply))
+    (drop cut.n (reply_bytes cut.reply)) (take-append-drop cut.n (reply_bytes cut.reply))) cut.ends.exact
 
 -- no reply is empty
 some-bytes : (r : Reply) → 0 < length (reply_bytes r)
@@ -187,16 +190,16 @@ not-whole rs r n few lie = elim (le-or n (length rs)) [
       let all : length (rs ++ r ∷ []) ≤ n = omega arith in
       let e : flat_map reply_bytes rs ≡ (flat_map reply_bytes rs ++ (reply_bytes r ++ [])) ++ lie.rest =
       lie.is ∙ ap (λ qs. flat_map reply_bytes qs ++ lie.rest) (take_all n (rs ++ r ∷ []) all)
-        ∙ ap (λ xs. xs ++ lie.rest) (flat_map-append reply_bytes rs (r ∷ [])) in
+      ∙ ap (λ xs. xs ++ lie.rest) (flat_map-append reply_bytes rs (r ∷ [])) in
       absurd (longer (flat_map reply_bytes rs) (reply_bytes r) lie.rest (some-bytes r) e)
 ] where
   longer : (xs ys zs : List ℕ) → 0 < length ys → xs ≡ (xs ++ (ys ++ [])) ++ zs → ⊥
   longer xs ys zs some e =
       let a = ap length e in
-          let b = length-append (xs ++ (ys ++ [])) zs in
-          let c = length-append xs (ys ++ []) in
-          let d = length-append ys [] in
-          omega arith
+      let b = length-append (xs ++ (ys ++ [])) zs in
+      let c = length-append xs (ys ++ []) in
+      let d = length-append ys [] in
+      omega arith
 
 -- the first commands of a story that goes on
 pub front-prefix : (t : Tables) (cs : List Command) (c : Command) (rs : List Reply) (r : Reply) (t' : Tables) (s' : Session) (n : ℕ)
@@ -210,7 +213,7 @@ front-prefix t cs c rs r t' s' n x story few is =
       story = subst (λ y. Story t no_session (take (length cs) (cs ++ c ∷ [])) (take (length cs) (rs ++ r ∷ [])) y s') (sym is)
           (subst (λ ds. Story t no_session ds (take (length cs) (rs ++ r ∷ [])) t' s') (sym (take-append_seam cs (c ∷ [])))
           (subst (λ qs. Story t no_session cs qs t' s') (sym (ap (λ m. take m (rs ++ r ∷ [])) (sym same) ∙ take-append_seam rs (r ∷ [])))
-            story));
+          story));
     }
 
 -- a commit failed
@@ -221,10 +224,14 @@ uncommitted-leaves t left left' out out' versions leaves run =
     let s1 = run.cut.session' in
     let answer = answer_of run.last s1 one.tables' in
     let story : Story t no_session (run.done ++ run.last ∷ []) (one.replies ++ answer.reply ∷ []) (tables_after answer.change one.tables')
-        answer.session =
+    answer.session =
     Story-then t no_session run.done one.replies one.tables' s1 (run.last ∷ []) (answer.reply ∷ []) (tables_after answer.change one.tables')
-        answer.session one.story (tables_after answer.change one.tables', answer.session,
-          inl (record { reply_is = refl; tables_are = refl; session_is = refl }), (refl, refl)) in record {
+    answer.session one.story (
+      tables_after answer.change one.tables',
+      answer.session,
+      inl (record { reply_is = refl; tables_are = refl; session_is = refl }),
+      (refl, refl),
+    ) in record {
       bytes = run.bytes;
       taken = run.taken;
       commands = run.done ++ run.last ∷ [];
@@ -238,9 +245,9 @@ uncommitted-leaves t left left' out out' versions leaves run =
       said = λ v has known. next-said one.replies answer.reply;
       each = λ n few lie x may. elim (one.ends.either x may) [
         | inl before ↦ front-prefix t run.done run.last one.replies answer.reply one.tables' s1 n x
-          one.story (not-whole one.replies answer.reply n few lie) before
+            one.story (not-whole one.replies answer.reply n few lie) before
         | inr after ↦ whole-prefix t (run.done ++ run.last ∷ []) (one.replies ++ answer.reply ∷ []) (tables_after answer.change one.tables')
-          answer.session n x story few after
+            answer.session n x story few after
       ];
     }
 

@@ -20,7 +20,7 @@ pub Running-asked : (left mid : Option (List ℕ)) (taken : ℕ) (now : Reading)
     (Ends : Tables → Type 0) (s1 : Session) (ok : Bool)
     (asked before asked' : Option (List ℕ) → Option (List ℕ) → Type 0)
     → AskedOnlyWhen (λ l o. IsUpToDate t left l out o) asked before → Running left mid taken now t out out1 Ends s1 ok
-        → taken ≤ SCRIPT_LIMIT
+    → taken ≤ SCRIPT_LIMIT
     → AskedOnlyWhen (λ l o. (l ≡ mid) × (o ≡ out1)) before asked' → AskedOnlyWhen (λ l o. IsUpToDate t left l out o) asked asked'
 Running-asked left mid taken now t out out1 Ends s1 ok asked before asked' so_far running le once =
     asked_more (λ l o. IsUpToDate t left l out o) mid out1 asked before asked' so_far

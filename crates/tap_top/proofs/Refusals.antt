@@ -38,8 +38,11 @@ is-condition (Err fault) ok = ok
 each-readable : (queries : List QueryRow) → Each (λ query. text_fault (condition_text query.source) ≡ None) queries
     → Each (λ query. is_readable query ≡ true) queries
 each-readable [] each = tt
-each-readable (query ∷ queries) each = (is-condition (condition_of (condition_text query.source))
-      (text-read (condition_text query.source) each.0), each-readable queries each.1)
+each-readable (query ∷ queries) each = (
+  is-condition (condition_of (condition_text query.source))
+      (text-read (condition_text query.source) each.0),
+  each-readable queries each.1,
+)
 
 all-read : (filters : List FilterRow) → Each (λ filter. filter_fault filter.source ≡ None) filters → first_unread filters ≡ None
 all-read [] each = refl

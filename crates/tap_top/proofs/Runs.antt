@@ -60,7 +60,7 @@ Running-start left t s out Ends new sound ends = record {
   taking = Taking-start left;
   answered_piece = subst (λ xs. PieceAnswered xs new_reading new_reading t no_session out out Ends s true) (sym (take-none SCRIPT_LIMIT))
       (subst (λ v. PieceAnswered [] new_reading new_reading t no_session out out Ends v true) (sym new)
-        (PieceAnswered-start new_reading t no_session out Ends refl (subst (IsSound t) new sound) ends));
+      (PieceAnswered-start new_reading t no_session out Ends refl (subst (IsSound t) new sound) ends));
 }
 
 -- the bytes that a script may have, of those taken so far and the next piece
@@ -68,7 +68,7 @@ fits : (limit : ℕ) (bytes piece : List ℕ) (n room : ℕ) → length bytes �
     → take limit (bytes ++ take n piece) ≡ bytes ++ take room piece
 fits limit bytes piece n room le is =
     ap (λ k. take k (bytes ++ take n piece)) (whole (length bytes) le) ∙ take-append-add bytes (take n piece) (limit - length bytes)
-      ∙ ap (λ xs. bytes ++ xs) (two (limit - length bytes) n piece ∙ ap (λ k. take k piece) (sym is)) where
+    ∙ ap (λ xs. bytes ++ xs) (two (limit - length bytes) n piece ∙ ap (λ k. take k piece) (sym is)) where
       whole : (m : ℕ) → m ≤ limit → limit ≡ m + (limit - m)
       whole m le = omega arith
 
@@ -108,9 +108,9 @@ Running-more left mid new taken n room piece now next t out out1 Mid s1 ok out2 
       taking = Taking-more left mid new taken n piece before.taking within took;
       answered_piece = subst (λ xs. PieceAnswered xs new_reading next t no_session out out2 Ends s2 (ok && ok2))
           (sym (fits SCRIPT_LIMIT before.taking.bytes piece n room (subst (λ k. k ≤ SCRIPT_LIMIT) before.taking.count le)
-              (is ∙ ap (λ k. min n (SCRIPT_LIMIT - k)) before.taking.count)))
+          (is ∙ ap (λ k. min n (SCRIPT_LIMIT - k)) before.taking.count)))
           (PieceAnswered-then before.taking.bytes (take room piece) new_reading now next t no_session out out1 Mid s1 ok out2 Ends s2 ok2
-            answered_piece (one answered_piece.answered.tables' answered_piece.answered.ends));
+          answered_piece (one answered_piece.answered.tables' answered_piece.answered.ends));
     }
 
 -- the complete commands of the bytes are those that were performed
@@ -138,8 +138,8 @@ Running-read left mid new taken now t out out1 Ends Less s1 ok less before le sa
       all_ok = ok;
       answered = Answered-less t no_session (complete before.taking.bytes) out out1 Ends Less s1 ok less
           (subst (λ cs. Answered t no_session cs out out1 Ends s1 ok)
-            (sym (complete-is before.taking.bytes now answered_piece.commands answered_piece.ended answered_piece.open_end))
-            answered_piece.answered);
+          (sym (complete-is before.taking.bytes now answered_piece.commands answered_piece.ended answered_piece.open_end))
+          answered_piece.answered);
     }
 
 -- status 8
@@ -163,7 +163,7 @@ Running-long left mid taken now t out out1 Ends Less s1 ok less before many few 
   all_ok = ok;
   answered = Answered-less t no_session (complete (take SCRIPT_LIMIT before.taking.bytes)) out out1 Ends Less s1 ok less
       (subst (λ cs. Answered t no_session cs out out1 Ends s1 ok) (sym (complete-is (take SCRIPT_LIMIT before.taking.bytes) now
-            before.answered_piece.commands before.answered_piece.ended before.answered_piece.open_end)) before.answered_piece.answered);
+      before.answered_piece.commands before.answered_piece.ended before.answered_piece.open_end)) before.answered_piece.answered);
 }
 
 -- the rest of a piece after some front of the bytes that a script may have
@@ -211,10 +211,10 @@ Running-at left mid new taken n room piece now t out out1 Mid s1 ok Cut Whole be
     let answered_piece = Running-answered_piece left mid taken now t out out1 Mid s1 ok before le in
     let b = behind piece (cut.most ++ cut.byte ∷ []) cut.more n room (SCRIPT_LIMIT - taken) is cut.split in
     let ended = ends-cut before.taking.bytes cut.most cut.byte new_reading now
-        cut.new answered_piece.commands cut.done cut.last answered_piece.ended cut.ended in
+    cut.new answered_piece.commands cut.done cut.last answered_piece.ended cut.ended in
     let front : take SCRIPT_LIMIT (before.taking.bytes ++ take n piece) ≡ ((before.taking.bytes ++ cut.most) ++ cut.byte ∷ []) ++ cut.more =
     front-of before.taking.bytes piece (cut.most ++ cut.byte ∷ []) cut.more taken n room before.taking.count le is cut.split
-      ∙ ap (λ xs. xs ++ cut.more) (sym (append_assoc before.taking.bytes cut.most (cut.byte ∷ []))) in record {
+    ∙ ap (λ xs. xs ++ cut.more) (sym (append_assoc before.taking.bytes cut.most (cut.byte ∷ []))) in record {
       bytes = before.taking.bytes ++ take n piece;
       taken = Consumes-more left mid new before.taking.bytes (take n piece) before.taking.consumed took;
       few = few-more before.taking.bytes piece taken n before.taking.count le within;
@@ -254,10 +254,10 @@ pub Running-cut : (left mid new : Option (List ℕ)) (taken n room : ℕ) (piece
 Running-cut left mid new taken n room piece now t out out1 Mid s1 ok out2 Ends before le within took is cut =
     let answered_piece = Running-answered_piece left mid taken now t out out1 Mid s1 ok before le in
     Running-at left mid new taken n room piece now t out out1 Mid s1 ok
-      (λ done last. CutOff answered_piece.answered.tables' s1 done last out1 out2 Ends)
-      (λ done last. CutOff t no_session done last out out2 Ends) before le within took is
+    (λ done last. CutOff answered_piece.answered.tables' s1 done last out1 out2 Ends)
+    (λ done last. CutOff t no_session done last out out2 Ends) before le within took is
     (λ done last one. CutOff-then t no_session answered_piece.commands out out1 Mid s1 ok done last out2 Ends answered_piece.answered one)
-      (cut answered_piece.answered.tables' answered_piece.answered.ends)
+    (cut answered_piece.answered.tables' answered_piece.answered.ends)
 
 -- status 5, in a piece
 pub Running-uncommitted : (left mid new : Option (List ℕ)) (taken n room : ℕ) (piece : List ℕ) (now : Reading) (t : Tables)
@@ -269,10 +269,10 @@ pub Running-uncommitted : (left mid new : Option (List ℕ)) (taken n room : ℕ
 Running-uncommitted left mid new taken n room piece now t out out1 Mid s1 ok out2 leaves before le within took is cut =
     let answered_piece = Running-answered_piece left mid taken now t out out1 Mid s1 ok before le in
     Running-at left mid new taken n room piece now t out out1 Mid s1 ok
-      (λ done next. Uncommitted answered_piece.answered.tables' s1 done next out1 out2 leaves)
-      (λ done next. Uncommitted t no_session done next out out2 leaves) before le within took is
+    (λ done next. Uncommitted answered_piece.answered.tables' s1 done next out1 out2 leaves)
+    (λ done next. Uncommitted t no_session done next out out2 leaves) before le within took is
     (λ done next one. Uncommitted-then t no_session answered_piece.commands out out1 Mid s1 ok done next out2 leaves
-        answered_piece.answered one) (cut answered_piece.answered.tables' answered_piece.answered.ends)
+    answered_piece.answered one) (cut answered_piece.answered.tables' answered_piece.answered.ends)
 
 -- status 7, in a piece
 pub Running-short : (left mid new : Option (List ℕ)) (taken n room : ℕ) (piece : List ℕ) (now : Reading) (t : Tables)
@@ -284,14 +284,17 @@ Running-short left mid new taken n room piece now t out out1 Mid s1 ok out2 Ends
     let answered_piece = Running-answered_piece left mid taken now t out out1 Mid s1 ok before le in
     let cut = short answered_piece.answered.tables' answered_piece.answered.ends in
     let ended = joined before.taking.bytes cut.fed new_reading now cut.new complete_from
-        answered_piece.commands cut.answered_piece.commands answered_piece.ended cut.answered_piece.ended in
-        record {
+    answered_piece.commands cut.answered_piece.commands answered_piece.ended cut.answered_piece.ended in
+    record {
       bytes = before.taking.bytes ++ take n piece;
       taken = Consumes-more left mid new before.taking.bytes (take n piece) before.taking.consumed took;
       few = few-more before.taking.bytes piece taken n before.taking.count le within;
       commands = answered_piece.commands ++ cut.answered_piece.commands;
-      first = record { rest = complete_from cut.new cut.more; is = ap complete
-            (front-of before.taking.bytes piece cut.fed cut.more taken n room before.taking.count le is cut.split) ∙ ended cut.more };
+      first = record {
+        rest = complete_from cut.new cut.more;
+        is = ap complete
+            (front-of before.taking.bytes piece cut.fed cut.more taken n room before.taking.count le is cut.split) ∙ ended cut.more;
+      };
       session = cut.session';
       all_ok = ok && cut.all_ok;
       answered = Answered-then t no_session answered_piece.commands out out1 Mid s1 ok cut.answered_piece.commands out2 Ends
@@ -314,7 +317,7 @@ Running-whole left mid new taken now t out out1 Mid s1 ok out2 Ends s2 ok2 befor
       session = s2;
       answered = subst (λ cs. Answered t no_session cs out out2 Ends s2 (ok && ok2))
           (sym (script-is before.taking.bytes now answered_piece.commands answered_piece.all)) (Answered-then t no_session
-            answered_piece.commands out out1 Mid s1 ok (script_from now []) out2 Ends s2 ok2 answered_piece.answered last);
+          answered_piece.commands out out1 Mid s1 ok (script_from now []) out2 Ends s2 ok2 answered_piece.answered last);
     }
 
 -- statuses 0 and 1
@@ -326,7 +329,7 @@ Running-closed left mid new taken now t out out1 Mid s1 ok out2 Ends all_ok befo
     let answered_piece = Running-answered_piece left mid taken now t out out1 Mid s1 ok before le in
     let closed = close answered_piece.answered.tables' answered_piece.answered.ends in
     subst (λ b. Whole t left new out out2 Ends b) (sym closed.all_is)
-      (Running-whole left mid new taken now t out out1 Mid s1 ok out2 Ends closed.session' closed.ok before le took end closed.answered)
+    (Running-whole left mid new taken now t out out1 Mid s1 ok out2 Ends closed.session' closed.ok before le took end closed.answered)
 
 -- the last command was cut off at the end of input
 Running-end-at : (left mid new : Option (List ℕ)) (taken : ℕ) (now : Reading) (t : Tables) (out out1 : Option (List ℕ))
@@ -338,7 +341,7 @@ Running-end-at left mid new taken now t out out1 Mid s1 ok Cut Whole before le t
     let answered_piece = Running-answered_piece left mid taken now t out out1 Mid s1 ok before le in
     let is : script before.taking.bytes ≡ (answered_piece.commands ++ []) ++ closed.last ∷ [] =
     script-is before.taking.bytes now answered_piece.commands answered_piece.all ∙ ap (λ cs. answered_piece.commands ++ cs) closed.only
-      ∙ ap (λ cs. cs ++ closed.last ∷ []) (sym (append-nil answered_piece.commands)) in
+    ∙ ap (λ cs. cs ++ closed.last ∷ []) (sym (append-nil answered_piece.commands)) in
     let same = same-front SCRIPT_LIMIT before.taking.bytes (subst (λ n. n ≤ SCRIPT_LIMIT) before.taking.count le) in record {
       bytes = before.taking.bytes;
       taken = subst (Consumes left new) (append-nil before.taking.bytes)
@@ -346,10 +349,16 @@ Running-end-at left mid new taken now t out out1 Mid s1 ok Cut Whole before le t
       few = few-now before.taking.bytes taken before.taking.count le;
       done = answered_piece.commands ++ [];
       last = closed.last;
-      first = inr (end,
-            record { rest = []; is = ap script same ∙ is ∙ sym (append-nil ((answered_piece.commands ++ []) ++ closed.last ∷ [])) });
-      prompt = inr (record { ended = end; before = complete-is before.taking.bytes now answered_piece.commands answered_piece.ended
-              answered_piece.open_end ∙ sym (append-nil answered_piece.commands); then_done = is });
+      first = inr (
+        end,
+        record { rest = []; is = ap script same ∙ is ∙ sym (append-nil ((answered_piece.commands ++ []) ++ closed.last ∷ [])) },
+      );
+      prompt = inr (record {
+        ended = end;
+        before = complete-is before.taking.bytes now answered_piece.commands answered_piece.ended
+            answered_piece.open_end ∙ sym (append-nil answered_piece.commands);
+        then_done = is;
+      });
       cut = whole [] closed.last closed.cut;
     }
 
@@ -362,10 +371,10 @@ pub Running-end-cut : (left mid new : Option (List ℕ)) (taken : ℕ) (now : Re
 Running-end-cut left mid new taken now t out out1 Mid s1 ok out2 Ends before le took end cut =
     let answered_piece = Running-answered_piece left mid taken now t out out1 Mid s1 ok before le in
     Running-end-at left mid new taken now t out out1 Mid s1 ok
-      (λ done last. CutOff answered_piece.answered.tables' s1 done last out1 out2 Ends)
-      (λ done last. CutOff t no_session done last out out2 Ends) before le took end
+    (λ done last. CutOff answered_piece.answered.tables' s1 done last out1 out2 Ends)
+    (λ done last. CutOff t no_session done last out out2 Ends) before le took end
     (λ done last one. CutOff-then t no_session answered_piece.commands out out1 Mid s1 ok done last out2 Ends answered_piece.answered one)
-      (cut answered_piece.answered.tables' answered_piece.answered.ends)
+    (cut answered_piece.answered.tables' answered_piece.answered.ends)
 
 -- status 5, at the end of input
 pub Running-end-uncommitted : (left mid new : Option (List ℕ)) (taken : ℕ) (now : Reading) (t : Tables) (out out1 : Option (List ℕ))
@@ -376,10 +385,10 @@ pub Running-end-uncommitted : (left mid new : Option (List ℕ)) (taken : ℕ) (
 Running-end-uncommitted left mid new taken now t out out1 Mid s1 ok out2 leaves before le took end cut =
     let answered_piece = Running-answered_piece left mid taken now t out out1 Mid s1 ok before le in
     Running-end-at left mid new taken now t out out1 Mid s1 ok
-      (λ done next. Uncommitted answered_piece.answered.tables' s1 done next out1 out2 leaves)
-      (λ done next. Uncommitted t no_session done next out out2 leaves) before le took end
+    (λ done next. Uncommitted answered_piece.answered.tables' s1 done next out1 out2 leaves)
+    (λ done next. Uncommitted t no_session done next out out2 leaves) before le took end
     (λ done next one. Uncommitted-then t no_session answered_piece.commands out out1 Mid s1 ok done next out2 leaves
-        answered_piece.answered one) (cut answered_piece.answered.tables' answered_piece.answered.ends)
+    answered_piece.answered one) (cut answered_piece.answered.tables' answered_piece.answered.ends)
 
 -- status 7, at the end of input
 pub Running-end-short : (left mid new : Option (List ℕ)) (taken : ℕ) (now : Reading) (t : Tables) (out out1 : Option (List ℕ))
@@ -393,8 +402,11 @@ Running-end-short left mid new taken now t out out1 Ends Less s1 ok less before 
           (Consumes-more left mid new before.taking.bytes [] before.taking.consumed took);
       few = few-now before.taking.bytes taken before.taking.count le;
       commands = answered_piece.commands;
-      first = record { rest = []; is = ap complete same ∙ complete-is before.taking.bytes now
-            answered_piece.commands answered_piece.ended answered_piece.open_end ∙ sym (append-nil answered_piece.commands) };
+      first = record {
+        rest = [];
+        is = ap complete same ∙ complete-is before.taking.bytes now
+            answered_piece.commands answered_piece.ended answered_piece.open_end ∙ sym (append-nil answered_piece.commands);
+      };
       session = s1;
       all_ok = ok;
       answered = Answered-less t no_session answered_piece.commands out out1 Ends Less s1 ok less answered_piece.answered;

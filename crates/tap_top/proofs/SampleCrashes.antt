@@ -53,10 +53,14 @@ next-leaves t cs leaves run =
     let s1 = run.session' in
     let answer = answer_of run.next s1 one.tables' in
     let story : Story t no_session (run.done ++ run.next ∷ []) (one.replies ++ answer.reply ∷ []) (tables_after answer.change one.tables')
-        answer.session =
+    answer.session =
     Story-then t no_session run.done one.replies one.tables' s1 (run.next ∷ []) (answer.reply ∷ []) (tables_after answer.change one.tables')
-        answer.session one.story (tables_after answer.change one.tables', answer.session,
-          inl (record { reply_is = refl; tables_are = refl; session_is = refl }), (refl, refl)) in record {
+    answer.session one.story (
+      tables_after answer.change one.tables',
+      answer.session,
+      inl (record { reply_is = refl; tables_are = refl; session_is = refl }),
+      (refl, refl),
+    ) in record {
       done = run.done ++ run.next ∷ [];
       first = run.first;
       replies = one.replies ++ answer.reply ∷ [];
@@ -65,9 +69,9 @@ next-leaves t cs leaves run =
       story = story;
       each = λ x may. elim (one.ends.1.either x may) [
         | inl before ↦
-          front-prefix t run.done run.next one.replies answer.reply one.tables' s1 0 x one.story (no-less (length one.replies)) before
+            front-prefix t run.done run.next one.replies answer.reply one.tables' s1 0 x one.story (no-less (length one.replies)) before
         | inr after ↦ whole-prefix t (run.done ++ run.next ∷ []) (one.replies ++ answer.reply ∷ []) (tables_after answer.change one.tables')
-          answer.session 0 x story (no-less (length (one.replies ++ answer.reply ∷ []))) after
+            answer.session 0 x story (no-less (length (one.replies ++ answer.reply ∷ []))) after
       ];
     }
 

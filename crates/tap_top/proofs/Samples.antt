@@ -38,8 +38,8 @@ total-append count [] ys = zero-more (reply_total count ys) where
   zero-more n = omega arith
 total-append count (x ∷ xs) ys = ap (λ n. count x + n) (total-append count xs ys)
     ∙ sum (count x) (reply_total count xs) (reply_total count ys) where
-  sum : (a b c : ℕ) → a + (b + c) ≡ a + b + c
-  sum a b c = omega arith
+      sum : (a b c : ℕ) → a + (b + c) ≡ a + b + c
+      sum a b c = omega arith
 
 each-append : (xs ys : List Reply) → NeverOutOfMemory xs → NeverOutOfMemory ys → NeverOutOfMemory (xs ++ ys)
 each-append [] ys none more = more
@@ -83,8 +83,13 @@ Performed-none t s Ends sound ends = record { replies = []; tables' = t; story =
 
 pub Performed-one : (t : Tables) (s : Session) (c : Command) (r : Reply) (Ends : List Reply → Tables → Type 0) (t' : Tables) (s' : Session)
     → IsSound t s → StoryStep t s c r t' s' → Ends (r ∷ []) t' → Performed t s (c ∷ []) Ends s'
-Performed-one t s c r Ends t' s' sound step ends = record { replies = r ∷ []; tables' = t'; story = (t', s', step, (refl, refl));
-      sound = (sound, step-sound t s c r t' s' step sound); ends = ends }
+Performed-one t s c r Ends t' s' sound step ends = record {
+  replies = r ∷ [];
+  tables' = t';
+  story = (t', s', step, (refl, refl));
+  sound = (sound, step-sound t s c r t' s' step sound);
+  ends = ends;
+}
 
 pub Performed-then : (t : Tables) (s : Session) (xs : List Command) (Mid : List Reply → Tables → Type 0) (s1 : Session) (ys : List Command)
     (Ends Both : List Reply → Tables → Type 0) (s2 : Session) → (one : Performed t s xs Mid s1)
@@ -148,8 +153,11 @@ pub record Performing (all left : List Command) (t : Tables) (s : Session) (Ends
 
 pub Performing-start : (all : List Command) (t : Tables) (s : Session) (Ends : Tables → Type 0) (tally : Tally) → IsSound t s → Ends t
     → tally.refused ≡ 0 → tally.delivered ≡ 0 → Performing all all t s Ends tally s
-Performing-start all t s Ends tally sound ends refused delivered = record { done = []; split = refl;
-      performed = Performed-none t s (λ replies x. Ends x × Counted tally replies) sound (ends, Counted-none tally refused delivered) }
+Performing-start all t s Ends tally sound ends refused delivered = record {
+  done = [];
+  split = refl;
+  performed = Performed-none t s (λ replies x. Ends x × Counted tally replies) sound (ends, Counted-none tally refused delivered);
+}
 
 pub Performing-more : (all left : List Command) (c : Command) (rest : List Command) (t : Tables) (s : Session) (Mid : Tables → Type 0)
     (tally : Tally) (s1 : Session) (Ends : Tables → Type 0) (after : Tally) (s2 : Session) → Performing all left t s Mid tally s1
@@ -187,9 +195,15 @@ Performing-short all left c rest t s Mid tally s1 Ends before next one =
     let r = q.performed in
     let l = r.ends.0 in
     let last : LastOutOfMemory (p.replies ++ r.replies) =
-        record { most = p.replies ++ l.most; last = l.last; split = ap (λ xs. p.replies ++ xs) l.split
-          ∙ sym (append_assoc p.replies l.most l.last); none = each-append p.replies l.most p.ends.1.none l.none; few = l.few } in
-        record {
+    record {
+      most = p.replies ++ l.most;
+      last = l.last;
+      split = ap (λ xs. p.replies ++ xs) l.split
+          ∙ sym (append_assoc p.replies l.most l.last);
+      none = each-append p.replies l.most p.ends.1.none l.none;
+      few = l.few;
+    } in
+    record {
       done = before.done ++ q.done;
       first = longer-front all left before.done (c ∷ []) rest before.split next q.done q.first;
       session' = q.session';
@@ -239,13 +253,19 @@ AllPerformed t s cs engine tells leaves tally s' =
 
 summed : (t : Tables) (n : ℕ) (cs : List Command) (engine : Engine) (tells leaves : Tables → Type 0) (tally : Tally) (s' : Session)
     (summary : Summary) (count : ℕ) → count ≡ length cs → cs ≡ sample_of n
-    → (one : AllPerformed t no_session (sample_of n) engine tells leaves tally s') → summary ≡ record { messages = n; commands = count;
-      refused = tally.refused; documents = length engine.index.docs; notes = length engine.index.notes; delivered = tally.delivered }
+    → (one : AllPerformed t no_session (sample_of n) engine tells leaves tally s') → summary ≡ record {
+      messages = n;
+      commands = count;
+      refused = tally.refused;
+      documents = length engine.index.docs;
+      notes = length engine.index.notes;
+      delivered = tally.delivered;
+    }
     → summary ≡ summary_of n one.replies one.tables'
 summed t n cs engine tells leaves tally s' summary count long all one is =
     Summary-of summary n count tally.refused (length engine.index.docs) (length engine.index.notes) tally.delivered one.replies one.tables'
-      is (long ∙ ap length all) one.ends.1.refused (ap (λ rows. length rows.docs) one.ends.0.represents.rows)
-      (ap (λ rows. length rows.notes) one.ends.0.represents.rows) one.ends.1.delivered
+    is (long ∙ ap length all) one.ends.1.refused (ap (λ rows. length rows.docs) one.ends.0.represents.rows)
+    (ap (λ rows. length rows.notes) one.ends.0.represents.rows) one.ends.1.delivered
 
 ended : (t : Tables) (n : ℕ) (engine : Engine) (tells leaves : Tables → Type 0) (tally : Tally) (s' : Session)
     → AllPerformed t no_session (sample_of n) engine tells leaves tally s'
@@ -256,8 +276,14 @@ ended t n engine tells leaves tally s' one =
 
 pub Sampled-put : (t : Tables) (n : ℕ) (s : Session) (cs : List Command) (engine : Engine) (tells leaves : Tables → Type 0) (tally : Tally)
     (s' : Session) (summary : Summary) (count : ℕ) (out out' : Option (List ℕ)) (ok : Bool) → count ≡ length cs → s ≡ no_session
-    → cs ≡ sample_of n → AllPerformed t s cs engine tells leaves tally s' → summary ≡ record { messages = n; commands = count;
-      refused = tally.refused; documents = length engine.index.docs; notes = length engine.index.notes; delivered = tally.delivered }
+    → cs ≡ sample_of n → AllPerformed t s cs engine tells leaves tally s' → summary ≡ record {
+      messages = n;
+      commands = count;
+      refused = tally.refused;
+      documents = length engine.index.docs;
+      notes = length engine.index.notes;
+      delivered = tally.delivered;
+    }
     → Appends out out' (summary_lines summary) → ok ≡ (summary.refused == 0) → Sampled t n out out' (IsDurable tells leaves) ok
 unfolding ended at-start Performed-with
 Sampled-put t n s cs engine tells leaves tally s' summary count out out' ok long new all one is put fine =
@@ -271,8 +297,14 @@ Sampled-put t n s cs engine tells leaves tally s' summary count out out' ok long
 
 pub Sampled-cut : (t : Tables) (n : ℕ) (s : Session) (cs : List Command) (engine : Engine) (tells leaves : Tables → Type 0) (tally : Tally)
     (s' : Session) (summary : Summary) (count : ℕ) (out out' : Option (List ℕ)) → count ≡ length cs → s ≡ no_session → cs ≡ sample_of n
-    → AllPerformed t s cs engine tells leaves tally s' → summary ≡ record { messages = n; commands = count; refused = tally.refused;
-      documents = length engine.index.docs; notes = length engine.index.notes; delivered = tally.delivered }
+    → AllPerformed t s cs engine tells leaves tally s' → summary ≡ record {
+      messages = n;
+      commands = count;
+      refused = tally.refused;
+      documents = length engine.index.docs;
+      notes = length engine.index.notes;
+      delivered = tally.delivered;
+    }
     → FrontPut (summary_lines summary) out out' → SampledCut t n out out' (IsDurable tells leaves)
 unfolding ended at-start Performed-with
 Sampled-cut t n s cs engine tells leaves tally s' summary count out out' long new all one is cut =

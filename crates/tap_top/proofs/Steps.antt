@@ -41,8 +41,13 @@ PieceAnswered-then a b r r1 r2 t s out mid Mid s1 x new Ends s2 y one two = reco
 pub PieceAnswered-less : (a : List ℕ) (r r1 : Reading) (t : Tables) (s : Session) (out mid : Option (List ℕ)) (Ends Less : Tables → Type 0)
     (s1 : Session) (x : Bool) → ((y : Tables) → Ends y → Less y) → PieceAnswered a r r1 t s out mid Ends s1 x
     → PieceAnswered a r r1 t s out mid Less s1 x
-PieceAnswered-less a r r1 t s out mid Ends Less s1 x less one = record { commands = one.commands; all = one.all; ended = one.ended;
-      open_end = one.open_end; answered = Answered-less t s one.commands out mid Ends Less s1 x less one.answered }
+PieceAnswered-less a r r1 t s out mid Ends Less s1 x less one = record {
+  commands = one.commands;
+  all = one.all;
+  ended = one.ended;
+  open_end = one.open_end;
+  answered = Answered-less t s one.commands out mid Ends Less s1 x less one.answered;
+}
 
 pub sides : {A : Type 0} (a b c d : List A) → a ++ ((b ++ c) ++ d) ≡ ((a ++ b) ++ c) ++ d
 sides a b c d = sym (append_assoc a (b ++ c) d) ∙ ap (λ xs. xs ++ d) (sym (append_assoc a b c))
@@ -122,9 +127,9 @@ Feeding-cut piece left old now t s out mid Mid s1 ok out2 Ends before cut =
     let answered_piece = before.answered_piece in
     subst (λ xs. PieceCut xs old (λ done last. CutOff t s done last out out2 Ends)) (sym before.split)
     (PieceCut-then before.fed left old now t s out mid Mid s1 ok (λ done last.
-        CutOff answered_piece.answered.tables' s1 done last mid out2 Ends) (λ done last. CutOff t s done last out out2 Ends) answered_piece
-      (λ done last one. CutOff-then t s answered_piece.commands out mid Mid s1 ok done last out2 Ends answered_piece.answered one)
-      (cut answered_piece.answered.tables' answered_piece.answered.ends))
+    CutOff answered_piece.answered.tables' s1 done last mid out2 Ends) (λ done last. CutOff t s done last out out2 Ends) answered_piece
+    (λ done last one. CutOff-then t s answered_piece.commands out mid Mid s1 ok done last out2 Ends answered_piece.answered one)
+    (cut answered_piece.answered.tables' answered_piece.answered.ends))
 
 -- a commit fails
 pub Feeding-uncommitted : (piece left : List ℕ) (old now : Reading) (t : Tables) (s : Session) (out mid : Option (List ℕ))
@@ -136,10 +141,10 @@ Feeding-uncommitted piece left old now t s out mid Mid s1 ok out2 leaves before 
     let answered_piece = before.answered_piece in
     subst (λ xs. PieceCut xs old (λ done next. Uncommitted t s done next out out2 leaves)) (sym before.split)
     (PieceCut-then before.fed left old now t s out mid Mid s1 ok
-      (λ done next. Uncommitted answered_piece.answered.tables' s1 done next mid out2 leaves)
-      (λ done next. Uncommitted t s done next out out2 leaves) answered_piece
-      (λ done next one. Uncommitted-then t s answered_piece.commands out mid Mid s1 ok done next out2 leaves answered_piece.answered one)
-      (cut answered_piece.answered.tables' answered_piece.answered.ends))
+    (λ done next. Uncommitted answered_piece.answered.tables' s1 done next mid out2 leaves)
+    (λ done next. Uncommitted t s done next out out2 leaves) answered_piece
+    (λ done next one. Uncommitted-then t s answered_piece.commands out mid Mid s1 ok done next out2 leaves answered_piece.answered one)
+    (cut answered_piece.answered.tables' answered_piece.answered.ends))
 
 -- no memory for the next step
 pub Feeding-short : (piece left : List ℕ) (old now : Reading) (t : Tables) (s : Session) (out mid out2 : Option (List ℕ))
@@ -148,7 +153,7 @@ pub Feeding-short : (piece left : List ℕ) (old now : Reading) (t : Tables) (s 
 Feeding-short piece left old now t s out mid out2 Ends Less s1 ok less same before =
     subst (λ o. PieceOutOfMemory piece old t s out o Less) (sym same)
     (subst (λ xs. PieceOutOfMemory xs old t s out mid Less) (sym before.split) (PieceOutOfMemory-now before.fed left old now t s out mid
-        Less s1 ok (PieceAnswered-less before.fed old now t s out mid Ends Less s1 ok less before.answered_piece)))
+    Less s1 ok (PieceAnswered-less before.fed old now t s out mid Ends Less s1 ok less before.answered_piece)))
 
 -- a reader's step, and the answer to the command that it gave
 pub PieceAnswered-got : (piece : List ℕ) (used : ℕ) (given : Option Command) (r r1 : Reading) (t : Tables) (s : Session)

@@ -51,7 +51,7 @@ first-sound t s (x ∷ xs) [] t1 s1 story along = absurd story
 list_all-append : (xs ys : List Reply) → list_all is_accepted (xs ++ ys) ≡ (list_all is_accepted xs && list_all is_accepted ys)
 list_all-append [] ys = refl
 list_all-append (x ∷ xs) ys = elim (is_accepted x) as (λ b. (b && list_all is_accepted (xs ++ ys))
-      ≡ ((b && list_all is_accepted xs) && list_all is_accepted ys)) [ true ↦ list_all-append xs ys | false ↦ refl ]
+    ≡ ((b && list_all is_accepted xs) && list_all is_accepted ys)) [ true ↦ list_all-append xs ys | false ↦ refl ]
 
 -- nothing is answered yet
 pub Answered-none : (t : Tables) (s : Session) (out : Option (List ℕ)) (Ends : Tables → Type 0) → IsSound t s → Ends t
@@ -96,8 +96,15 @@ Answered-then t s xs out mid Mid s1 a ys new Ends s2 b one two = record {
 -- what is known of the end may be less
 pub Answered-less : (t : Tables) (s : Session) (xs : List Command) (out new : Option (List ℕ)) (Ends Less : Tables → Type 0) (s1 : Session)
     (a : Bool) → ((x : Tables) → Ends x → Less x) → Answered t s xs out new Ends s1 a → Answered t s xs out new Less s1 a
-Answered-less t s xs out new Ends Less s1 a less one = record { replies = one.replies; tables' = one.tables'; story = one.story;
-      sound = one.sound; written = one.written; ok = one.ok; ends = less one.tables' one.ends }
+Answered-less t s xs out new Ends Less s1 a less one = record {
+  replies = one.replies;
+  tables' = one.tables';
+  story = one.story;
+  sound = one.sound;
+  written = one.written;
+  ok = one.ok;
+  ends = less one.tables' one.ends;
+}
 
 -- one command's reply is cut off
 pub CutOff-one : (t : Tables) (s : Session) (c : Command) (r : Reply) (out out' : Option (List ℕ)) (Ends : Tables → Type 0) (t' : Tables)
@@ -123,11 +130,11 @@ pub CutOff-then : (t : Tables) (s : Session) (xs : List Command) (out mid : Opti
 CutOff-then t s xs out mid Mid s1 a done last new Ends one cut =
     let story : Story t s ((xs ++ done) ++ last ∷ []) ((one.replies ++ cut.replies) ++ cut.reply ∷ []) cut.tables' cut.session' =
     subst (λ cs. Story t s cs ((one.replies ++ cut.replies) ++ cut.reply ∷ []) cut.tables' cut.session')
-      (sym (append_assoc xs done (last ∷ [])))
+    (sym (append_assoc xs done (last ∷ [])))
     (subst (λ rs. Story t s (xs ++ (done ++ last ∷ [])) rs cut.tables' cut.session')
-      (sym (append_assoc one.replies cut.replies (cut.reply ∷ [])))
+    (sym (append_assoc one.replies cut.replies (cut.reply ∷ [])))
     (Story-then t s xs one.replies one.tables' s1 (done ++ last ∷ []) (cut.replies ++ cut.reply ∷ [])
-          cut.tables' cut.session' one.story cut.story)) in record {
+    cut.tables' cut.session' one.story cut.story)) in record {
       replies = one.replies ++ cut.replies;
       reply = cut.reply;
       tables' = cut.tables';
@@ -138,7 +145,7 @@ CutOff-then t s xs out mid Mid s1 a done last new Ends one cut =
       n = cut.n;
       within = cut.within;
       written = subst (λ xs. Appends out new xs) (joined (flat_map reply_bytes one.replies) (flat_map reply_bytes cut.replies)
-            (take cut.n (reply_bytes cut.reply)) (flat_map-append reply_bytes one.replies cut.replies))
+          (take cut.n (reply_bytes cut.reply)) (flat_map-append reply_bytes one.replies cut.replies))
           (Appends-more out mid new _ _ one.written cut.written);
       ends = cut.ends;
     } where
@@ -151,7 +158,7 @@ pub Uncommitted-one : (t : Tables) (s : Session) (c : Command) (out : Option (Li
     → Uncommitted t s [] c out out leaves
 Uncommitted-one t s c out leaves sound accepted adds either =
     let may : MayHaveCommitted leaves c s t = record { accepted = accepted; adds = adds; either = either } in
-        record { session' = s; all_ok = true; answered = Answered-none t s out (MayHaveCommitted leaves c s) sound may }
+    record { session' = s; all_ok = true; answered = Answered-none t s out (MayHaveCommitted leaves c s) sound may }
 
 -- a commit failed after commands that were answered
 pub Uncommitted-then : (t : Tables) (s : Session) (xs : List Command) (out mid : Option (List ℕ)) (Mid : Tables → Type 0) (s1 : Session)

@@ -29,7 +29,7 @@ alien-for P end version holds is = subst (λ x. IfAlien {T = Tables} (Err x) P) 
 pub alien-migrated : (end : AttachFault) (version w : ℤ) (versions' : ℤ → Type 0) (honest : Type 0) (versions : ℤ → Type 0)
     → end ≡ Alien version → IfAlien {T = Tables} (Err end) (λ v. (v ≢ pos 1) × (v ≢ pos 2))
     → IfAlien {T = Tables} (Err end) (λ v. honest → (u : ℤ) → versions u → (u ≡ v) × versions' u) → honest → versions w
-        → IsMigrated w versions'
+    → IsMigrated w versions'
 alien-migrated end version w versions' honest versions is alien same now has =
     let other = alien-for (λ v. (v ≢ pos 1) × (v ≢ pos 2)) end version alien is in
     let here = alien-for (λ v. honest → (u : ℤ) → versions u → (u ≡ v) × versions' u) end version same is now w has in

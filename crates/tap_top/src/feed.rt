@@ -58,11 +58,11 @@ pub fn answer<K: Sink, P: Keeper, L: Ledger>(
     ensures put { IsErrOf result Stop.Put
         → FromEngine P.Keeper engine.old keeper.old keeper.new (λ t.
         CutOff t engine.old.session [] command (K.out sink.old) (K.out sink.new)
-            (IsDurableIn P.Keeper keeper.new)) }
+        (IsDurableIn P.Keeper keeper.new)) }
     ensures uncommitted { IsErrOf result Stop.Keeper
         → FromEngine P.Keeper engine.old keeper.old keeper.new (λ t.
         Uncommitted t engine.old.session [] command (K.out sink.old) (K.out sink.new)
-            (P.may_leave keeper.new)) }
+        (P.may_leave keeper.new)) }
     ensures able { IsErrOf result Stop.Memory → ⊥ }
     ensures can { OnOk result (CanPerform P.Keeper engine.new keeper.new) }
     ensures stopped { (P.stopped keeper.new ≡ true) ↔ IsErrOf result Stop.Keeper }
@@ -113,18 +113,18 @@ fn take_one<K: Sink, P: Keeper, L: Ledger>(
     ensures open { OnOk result (complete_from reader.new [] ≡ []) }
     ensures ok { IfOk result (λ step. FromEngine P.Keeper engine.old keeper.old keeper.new (λ t.
         PieceAnswered (take step.used piece.now) reader.old reader.new t
-            engine.old.session (K.out sink.old) (K.out sink.new)
+        engine.old.session (K.out sink.old) (K.out sink.new)
         (AgreeOn P.Keeper engine.new keeper.new) engine.new.session step.ok)) }
     ensures put { IsErrOf result Stop.Put
         → FromEngine P.Keeper engine.old keeper.old keeper.new (λ t.
         PieceCut piece.now reader.old (λ done last.
         CutOff t engine.old.session done last (K.out sink.old) (K.out sink.new)
-            (IsDurableIn P.Keeper keeper.new))) }
+        (IsDurableIn P.Keeper keeper.new))) }
     ensures uncommitted { IsErrOf result Stop.Keeper
         → FromEngine P.Keeper engine.old keeper.old keeper.new (λ t.
         PieceCut piece.now reader.old (λ done next.
         Uncommitted t engine.old.session done next (K.out sink.old) (K.out sink.new)
-            (P.may_leave keeper.new))) }
+        (P.may_leave keeper.new))) }
     ensures memory { IsErrOf result Stop.Memory → (keeper.new ≡ keeper.old)
         × ((engine.new ≡ engine.old) × (K.out sink.new ≡ K.out sink.old)) }
     ensures can { OnOk result (CanPerform P.Keeper engine.new keeper.new) }
@@ -165,22 +165,22 @@ pub fn feed<K: Sink, P: Keeper, L: Ledger>(
     ensures open { OnOk result (complete_from reader.new [] ≡ []) }
     ensures ok { IfOk result (λ ok. FromEngine P.Keeper engine.old keeper.old keeper.new (λ t.
         PieceAnswered piece.now reader.old reader.new t engine.old.session (K.out sink.old)
-            (K.out sink.new)
+        (K.out sink.new)
         (AgreeOn P.Keeper engine.new keeper.new) engine.new.session ok)) }
     ensures put { IsErrOf result Stop.Put
         → FromEngine P.Keeper engine.old keeper.old keeper.new (λ t.
         PieceCut piece.now reader.old (λ done last.
         CutOff t engine.old.session done last (K.out sink.old) (K.out sink.new)
-            (IsDurableIn P.Keeper keeper.new))) }
+        (IsDurableIn P.Keeper keeper.new))) }
     ensures uncommitted { IsErrOf result Stop.Keeper
         → FromEngine P.Keeper engine.old keeper.old keeper.new (λ t.
         PieceCut piece.now reader.old (λ done next.
         Uncommitted t engine.old.session done next (K.out sink.old) (K.out sink.new)
-            (P.may_leave keeper.new))) }
+        (P.may_leave keeper.new))) }
     ensures memory { IsErrOf result Stop.Memory
         → FromEngine P.Keeper engine.old keeper.old keeper.new (λ t.
         PieceOutOfMemory piece.now reader.old t engine.old.session (K.out sink.old) (K.out sink.new)
-            (IsDurableIn P.Keeper keeper.new)) }
+        (IsDurableIn P.Keeper keeper.new)) }
     ensures can { OnOk result (CanPerform P.Keeper engine.new keeper.new) }
     ensures stopped { (P.stopped keeper.new ≡ true) ↔ IsErrOf result Stop.Keeper }
     ensures cause { IsErrOf result Stop.Put → Rose (K.faults sink.old) (K.faults sink.new) }
@@ -223,12 +223,12 @@ pub fn finish<K: Sink, P: Keeper, L: Ledger>(
         → FromEngine P.Keeper engine.old keeper.old keeper.new (λ t.
         ClosedCut (script_from reader.old []) (λ done last.
         CutOff t engine.old.session done last (K.out sink.old) (K.out sink.new)
-            (IsDurableIn P.Keeper keeper.new))) }
+        (IsDurableIn P.Keeper keeper.new))) }
     ensures uncommitted { IsErrOf result Stop.Keeper
         → FromEngine P.Keeper engine.old keeper.old keeper.new (λ t.
         ClosedCut (script_from reader.old []) (λ done next.
         Uncommitted t engine.old.session done next (K.out sink.old) (K.out sink.new)
-            (P.may_leave keeper.new))) }
+        (P.may_leave keeper.new))) }
     ensures memory { IsErrOf result Stop.Memory → (keeper.new ≡ keeper.old)
         × ((engine.new ≡ engine.old) × (K.out sink.new ≡ K.out sink.old)) }
     ensures stopped { (P.stopped keeper.new ≡ true) ↔ IsErrOf result Stop.Keeper }

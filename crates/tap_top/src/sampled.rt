@@ -75,7 +75,7 @@ fn perform_one<P: Keeper, L: Ledger>(
     ensures ok { IfOk result (λ counted. FromEngine P.Keeper engine.old keeper.old keeper.new (λ t.
         Performed t engine.old.session (command ∷ [])
         (λ replies x. AgreeOn P.Keeper engine.new keeper.new x × Adds tally counted replies)
-            engine.new.session)) }
+        engine.new.session)) }
     ensures memory { IsErrOf result Cut.Memory
         → FromEngine P.Keeper engine.old keeper.old keeper.new (λ t.
         FirstPerformed t engine.old.session (command ∷ []) (IsDurableIn P.Keeper keeper.new)) }
@@ -111,7 +111,7 @@ fn perform_all<P: Keeper, L: Ledger>(
     ensures ok { IfOk result (λ tally. FromEngine P.Keeper engine.old keeper.old keeper.new (λ t.
         Performed t engine.old.session commands
         (λ replies x. AgreeOn P.Keeper engine.new keeper.new x × Counted tally replies)
-            engine.new.session)) }
+        engine.new.session)) }
     ensures memory { IsErrOf result Cut.Memory
         → FromEngine P.Keeper engine.old keeper.old keeper.new (λ t.
         FirstPerformed t engine.old.session commands (IsDurableIn P.Keeper keeper.new)) }
@@ -188,7 +188,7 @@ fn run_sample<K: Sink, P: Keeper, L: Ledger>(
     requires session { engine.old.session ≡ no_session }
     ensures ends { FromEngine P.Keeper engine.old keeper.old keeper.new (λ t.
         EngineSampleEnds result t n (K.out sink.old) (K.out sink.new) (P.tells keeper.new)
-            (P.may_leave keeper.new)) }
+        (P.may_leave keeper.new)) }
     ensures silent { (result ≡ Status.KeeperFailed) ⊎ (result ≡ Status.OutOfMemory)
         → K.out sink.new ≡ K.out sink.old }
     ensures statuses { IsOfClose result }

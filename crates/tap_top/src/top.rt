@@ -88,12 +88,12 @@ fn close<K: Sink, P: Keeper, L: Ledger>(
         → FromEngine P.Keeper engine.old keeper.old keeper.new (λ t.
         ClosedCut (script_from reader.old []) (λ done last.
         CutOff t engine.old.session done last (K.out sink.old) (K.out sink.new)
-            (IsDurableIn P.Keeper keeper.new))) }
+        (IsDurableIn P.Keeper keeper.new))) }
     ensures uncommitted { result ≡ Status.KeeperFailed
         → FromEngine P.Keeper engine.old keeper.old keeper.new (λ t.
         ClosedCut (script_from reader.old []) (λ done next.
         Uncommitted t engine.old.session done next (K.out sink.old) (K.out sink.new)
-            (P.may_leave keeper.new))) }
+        (P.may_leave keeper.new))) }
     ensures memory { result ≡ Status.OutOfMemory → (keeper.new ≡ keeper.old)
         × ((engine.new ≡ engine.old) × (K.out sink.new ≡ K.out sink.old)) }
     ensures statuses { IsOfClose result }
@@ -125,11 +125,11 @@ fn run<S: Peer<K>, K: Sink, P: Keeper, L: Ledger>(
     requires session { engine.old.session ≡ no_session }
     ensures ends { FromEngine P.Keeper engine.old keeper.old keeper.new (λ t.
         EngineScriptEnds result t (S.left source.old) (S.left source.new) (K.out sink.old)
-            (K.out sink.new)
+        (K.out sink.new)
         (P.tells keeper.new) (P.may_leave keeper.new)) }
     ensures prompt { FromEngine P.Keeper engine.old keeper.old keeper.new (λ t.
         AskedOnlyWhen (λ l o. IsUpToDate t (S.left source.old) l (K.out sink.old) o)
-            (S.was_asked source.old) (S.was_asked source.new)) }
+        (S.was_asked source.old) (S.was_asked source.new)) }
     ensures many { result ≡ Status.ScriptTooLong
         → PassedScriptLimit (S.left source.old) (S.left source.new) }
     ensures statuses { IsOfRun result }
@@ -192,11 +192,11 @@ fn run_store<S: Peer<K>, K: Sink, P: Keeper, L: Ledger>(
     // How the script ended over a store that a session left.
     ensures script { FromStore P.Keeper keeper.old keeper.new (λ t.
         ScriptEnds (code_of result) t (S.left source.old) (S.left source.new) (K.out sink.old)
-            (K.out sink.new)
+        (K.out sink.new)
         (P.has_version keeper.old) (P.tells keeper.new) (P.may_leave keeper.new)) }
     ensures prompt { FromStore P.Keeper keeper.old keeper.new (λ t.
         AskedOnlyWhen (λ l o. IsUpToDate t (S.left source.old) l (K.out sink.old) o)
-            (S.was_asked source.old) (S.was_asked source.new)) }
+        (S.was_asked source.old) (S.was_asked source.new)) }
     ensures kept { FromStore P.Keeper keeper.old keeper.new (λ t.
         (x : Tables) → P.may_leave keeper.new x → IsStore x) }
     ensures version { FromStore P.Keeper keeper.old keeper.new (λ t.
@@ -269,7 +269,7 @@ pub fn tapestry<S: Peer<K>, K: Sink, P: Keeper, L: Ledger>(
     ensures faulty { (result ≡ 2) ⊎ ((result ≡ 7) ⊎ (faults_of app words.now ≡ [])) }
     ensures nothing { result ≡ 2 →
         (keeper.new ≡ keeper.old)
-            × ((K.out sink.new ≡ K.out sink.old) × (S.left source.new ≡ S.left source.old)) }
+        × ((K.out sink.new ≡ K.out sink.old) × (S.left source.new ≡ S.left source.old)) }
     ensures path { IsPlacedBy result (P.path keeper.old) (P.path keeper.new) (path_in words.now) }
     ensures named { (path : Option (List ℕ)) (number : Option ℕ)
         → IsWellWorded words.now path number →
@@ -279,14 +279,14 @@ pub fn tapestry<S: Peer<K>, K: Sink, P: Keeper, L: Ledger>(
     // leaves.
     ensures script { sample_in words.now ≡ None → FromStore P.Keeper keeper.old keeper.new (λ t.
         ScriptEnds result t (S.left source.old) (S.left source.new) (K.out sink.old)
-            (K.out sink.new)
+        (K.out sink.new)
         (P.has_version keeper.old) (P.tells keeper.new) (P.may_leave keeper.new)) }
 
     // Over such a store, whenever the source was asked for more, the reply to each command that was
     // complete in the bytes taken so far was out, whole, and nothing else.
     ensures prompt { FromStore P.Keeper keeper.old keeper.new (λ t.
         AskedOnlyWhen (λ l o. IsUpToDate t (S.left source.old) l (K.out sink.old) o)
-            (S.was_asked source.old) (S.was_asked source.new)) }
+        (S.was_asked source.old) (S.was_asked source.new)) }
 
     // A sample over such a store: how it ended, by the status, and what a crash leaves; nothing is
     // read.

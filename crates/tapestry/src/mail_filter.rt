@@ -21,7 +21,7 @@ impl StoreProgram for MailFilter {
     ghost ends_over = { λ words status left left' out out' asked asked' tables versions versions'
         tells leaves.
         EndsOver words status left left' out out' asked asked' tables versions versions' tells
-            leaves };
+        leaves };
 
     ghost path = { λ words. path_in words };
 

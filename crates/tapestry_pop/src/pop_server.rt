@@ -21,7 +21,7 @@ impl StoreProgram for PopServer {
     ghost ends_over = { λ words status left left' out out' asked asked' tables versions versions'
         tells leaves.
         PopEndsOver words status left left' out out' asked asked' tables versions versions' tells
-            leaves };
+        leaves };
 
     ghost path = { λ words. pop_path_in words };
 

@@ -44,5 +44,5 @@ module _ (T : Tables) (n b : ℤ) (e : Term) where
       any_same _ (λ r. int_le (arrival r) b && truth (visible T b) b x (bind w r env)) (rows_of t T) (λ r.
       let s = copy_stays e w r final sc.0 sc.1 ∙ v in
       rw (arrival_value w r final, s) (ap (λ y. int_le (arrival r) b && y)
-          (body_truth x (w.0 ∷ scope) (bind w r env) (bind w r final) sc.3 (same_bind scope env final w r h) s)))
+      (body_truth x (w.0 ∷ scope) (bind w r env) (bind w r final) sc.3 (same_bind scope env final w r h) s)))
       ∙ sym (any_visible t T b (λ r. truth (visible T b) b x (bind w r env)))

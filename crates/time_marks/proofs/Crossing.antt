@@ -65,13 +65,27 @@ plus_none x = omega (arith, ints)
 module _ (T : Tables) (s : ℤ) where
   pub crossed_left : (scope : List ℕ) (env penv : Env) (ms ns : List Mark) → Crossed T s scope env penv ms
       → Crossed T s scope env penv (ms ++ ns)
-  crossed_left scope env penv ms ns c = record { mark = c.mark; is_mark = in_left ms ns c.mark c.is_mark; final = c.final; along = c.along;
-        guards = c.guards; reaches = c.reaches; keeps = c.keeps }
+  crossed_left scope env penv ms ns c = record {
+    mark = c.mark;
+    is_mark = in_left ms ns c.mark c.is_mark;
+    final = c.final;
+    along = c.along;
+    guards = c.guards;
+    reaches = c.reaches;
+    keeps = c.keeps;
+  }
 
   pub crossed_right : (scope : List ℕ) (env penv : Env) (ms ns : List Mark) → Crossed T s scope env penv ns
       → Crossed T s scope env penv (ms ++ ns)
-  crossed_right scope env penv ms ns c = record { mark = c.mark; is_mark = in_right ms ns c.mark c.is_mark; final = c.final;
-        along = c.along; guards = c.guards; reaches = c.reaches; keeps = c.keeps }
+  crossed_right scope env penv ms ns c = record {
+    mark = c.mark;
+    is_mark = in_right ms ns c.mark c.is_mark;
+    final = c.final;
+    along = c.along;
+    guards = c.guards;
+    reaches = c.reaches;
+    keeps = c.keeps;
+  }
 
   -- a mark with no path
   pub crossed_here : (scope : List ℕ) (env penv : Env) (up : Bool) (e : Term) → up ≡ true → value e penv ≡ Some s → Keeps scope env penv
@@ -111,19 +125,19 @@ module _ (T : Tables) (u s : ℤ) (next : s ≡ u +ℤ pos 1) where
       crossed_here T s scope env penv (not up) (copy_term e) k.0 (value_copy scope env penv h e sc ∙ k.1) h
   crossing (All l r) up scope env penv sc h a b =
       elim (all_changes up (truth (visible T u) u l env) (truth (visible T u) u r env) (truth (visible T s) s l env)
-          (truth (visible T s) s r env) a b) [
+      (truth (visible T s) s r env) a b) [
         | inl k ↦ crossed_left T s scope env penv (marks l up) (marks r up) (crossing l up scope env penv sc.0 h k.0 k.1)
         | inr k ↦ crossed_right T s scope env penv (marks l up) (marks r up) (crossing r up scope env penv sc.1 h k.0 k.1)
       ]
   crossing (Either l r) up scope env penv sc h a b =
       elim (either_changes up (truth (visible T u) u l env) (truth (visible T u) u r env) (truth (visible T s) s l env)
-          (truth (visible T s) s r env) a b) [
+      (truth (visible T s) s r env) a b) [
         | inl k ↦ crossed_left T s scope env penv (marks l up) (marks r up) (crossing l up scope env penv sc.0 h k.0 k.1)
         | inr k ↦ crossed_right T s scope env penv (marks l up) (marks r up) (crossing r up scope env penv sc.1 h k.0 k.1)
       ]
   crossing (Not x) up scope env penv sc h a b =
       crossing x (not up) scope env penv sc h (not_changes (not up) (truth (visible T u) u x env) a)
-        (not_changes up (truth (visible T s) s x env) b)
+      (not_changes up (truth (visible T s) s x env) b)
   crossing (Exists v t x) true scope env penv sc h a b =
       let k = visible_in t T s (λ row. truth (visible T s) s x (bind v row env)) b in
       let r = k.0 in
@@ -131,14 +145,14 @@ module _ (T : Tables) (u s : ℤ) (next : s ≡ u +ℤ pos 1) where
       crossed_after T s scope env penv v t x r _ (visible T s) s sc.2 sc.3 k.1 k.2 k.3 (
       elim (cases_Bool (int_le (arrival r) u)) [
         | inl was ↦
-          crossed_right T s (v.0 ∷ scope) (bind v r env) (bind (copy v) r penv) (mark_if true (arrival_term (copy v))) (marks x true)
+            crossed_right T s (v.0 ∷ scope) (bind v r env) (bind (copy v) r penv) (mark_if true (arrival_term (copy v))) (marks x true)
             (crossing x true (v.0 ∷ scope) (bind v r env) (bind (copy v) r penv) sc.3 h'
-              (visible_none t T u (λ row. truth (visible T u) u x (bind v row env)) a r k.1 was) k.3)
+            (visible_none t T u (λ row. truth (visible T u) u x (bind v row env)) a r k.1 was) k.3)
         | inr new ↦
-          crossed_left T s (v.0 ∷ scope) (bind v r env) (bind (copy v) r penv) (mark_if true (arrival_term (copy v))) (marks x true)
+            crossed_left T s (v.0 ∷ scope) (bind v r env) (bind (copy v) r penv) (mark_if true (arrival_term (copy v))) (marks x true)
             (crossed_here T s (v.0 ∷ scope) (bind v r env) (bind (copy v) r penv) true (arrival_term (copy v)) refl
             (ap (λ o. plus_to (on_row o (λ row. Some (arrival row))) (pos 0)) (bind_same (copy v) r penv)
-                ∙ ap Some (plus_none (arrival r) ∙ reached u s (arrival r) next new k.2)) h')
+            ∙ ap Some (plus_none (arrival r) ∙ reached u s (arrival r) next new k.2)) h')
       ])
   crossing (Exists v t x) false scope env penv sc h a b =
       let k = visible_in t T u (λ row. truth (visible T u) u x (bind v row env)) a in
@@ -146,4 +160,4 @@ module _ (T : Tables) (u s : ℤ) (next : s ≡ u +ℤ pos 1) where
       let come = still u s (arrival r) next k.2 in
       crossed_after T s scope env penv v t x r (marks x false) (visible T u) u sc.2 sc.3 k.1 come k.3
       (crossing x false (v.0 ∷ scope) (bind v r env) (bind (copy v) r penv) sc.3 (keeps_bind scope env penv v r sc.2 h)
-        k.3 (visible_none t T s (λ row. truth (visible T s) s x (bind v row env)) b r k.1 come))
+      k.3 (visible_none t T s (λ row. truth (visible T s) s x (bind v row env)) b r k.1 come))

@@ -49,7 +49,7 @@ pub keeps_bind : (scope : List ℕ) (env penv : Env) (v : Var) (r : Row) → (In
     → Keeps (v.0 ∷ scope) (bind v r env) (bind (copy v) r penv)
 keeps_bind scope env penv v r new h k (inl e) =
     subst (λ j. lookup (copied j) (bind (copy v) r penv) ≡ lookup j (bind v r env)) (sym e)
-      (bind_same (copy v) r penv ∙ sym (bind_same v r env))
+    (bind_same (copy v) r penv ∙ sym (bind_same v r env))
 keeps_bind scope env penv v r new h k (inr i) =
     let apart : k ≡ v.0 → ⊥ = λ e. new (subst (λ j. In j scope) e i) in
     bind_other (copied k) (copy v) r penv (λ e. apart (copied_back k v.0 e)) ∙ h k i ∙ sym (bind_other k v r env apart)
@@ -102,7 +102,7 @@ module _ (scope : List ℕ) (env final : Env) (h : Keeps scope env final) where
   guards_hold T s (All l r) i y =
       let p = and_parts (truth T s l env) (truth T s r env) y in
       rw (map_append copy_atom (guards_of l) (guards_of r)) (all_append (λ a. true_atom a final) (map copy_atom (guards_of l))
-          (map copy_atom (guards_of r)) (guards_hold T s l i.0 p.0) (guards_hold T s r i.1 p.1))
+      (map copy_atom (guards_of r)) (guards_hold T s l i.0 p.0) (guards_hold T s r i.1 p.1))
     where
       map_append : (f : Atom → Atom) (xs ys : List Atom) → map f (xs ++ ys) ≡ map f xs ++ map f ys
       map_append f [] ys = refl

@@ -36,7 +36,7 @@ step_is a b h =
     let y = table_is a.table b.table q.0 in
     let z = list_is atom.ghosts.eq atom_is a.guards b.guards q.1 in
     ap (λ k. record { var = k; table = a.table; guards = a.guards }) x ∙ ap (λ k. record { var = b.var; table = k; guards = a.guards }) y
-        ∙ ap (λ k. record { var = b.var; table = b.table; guards = k }) z
+    ∙ ap (λ k. record { var = b.var; table = b.table; guards = k }) z
 
 pub probe_is : (p q : Probe) → same_probe p q ≡ true → p ≡ q
 probe_is a b h =
@@ -46,7 +46,7 @@ probe_is a b h =
     let y = term_is a.at b.at q.0 in
     let z = condition_is a.body b.body q.1 in
     ap (λ k. record { path = k; at = a.at; body = a.body }) x ∙ ap (λ k. record { path = b.path; at = k; body = a.body }) y
-        ∙ ap (λ k. record { path = b.path; at = b.at; body = k }) z
+    ∙ ap (λ k. record { path = b.path; at = b.at; body = k }) z
 
 probe_itself : (p : Probe) → same_probe p p ≡ true
 probe_itself p = and_from _ _ ((lists_equiv step_laws.laws-law).refl p.path) (and_from _ _ (term_laws.laws-law.refl p.at) (itself p.body))

@@ -70,9 +70,9 @@ not-below a b = grind (arith, ints)
 pub days-within : (w : Window) (x : ℤ) → is_within (days_window w) x ≡ is_within w (round_up_to_day x)
 days-within w x =
     let low : int_le (round_up_to_day w.low -ℤ pos 86399) x ≡ int_le w.low (round_up_to_day x) =
-        day-low w.low x (round_up_to_day w.low) (round_up_to_day x) (round_up_to_day-day w.low) (round_up_to_day-day x) in
+    day-low w.low x (round_up_to_day w.low) (round_up_to_day x) (round_up_to_day-day w.low) (round_up_to_day-day x) in
     let below : int_le (round_up_to_day w.high -ℤ pos 86399) x ≡ int_le w.high (round_up_to_day x) =
-        day-low w.high x (round_up_to_day w.high) (round_up_to_day x) (round_up_to_day-day w.high) (round_up_to_day-day x) in
+    day-low w.high x (round_up_to_day w.high) (round_up_to_day x) (round_up_to_day-day w.high) (round_up_to_day-day x) in
     let high : int_lt x (round_up_to_day w.high -ℤ pos 86399) ≡ int_lt (round_up_to_day x) w.high =
-        not-below x (round_up_to_day w.high -ℤ pos 86399) ∙ ap not below ∙ sym (not-below (round_up_to_day x) w.high) in
+    not-below x (round_up_to_day w.high -ℤ pos 86399) ∙ ap not below ∙ sym (not-below (round_up_to_day x) w.high) in
     rw (low, high) refl

@@ -108,8 +108,8 @@ one_number nodes p (suc n) i j a b c e =
     let x = there nodes i b in
     let y = there nodes j c in
     let same = same_node (tree_at nodes) i j x.0 y.0 (p.behind i x.0 x.1) (p.behind j y.0 y.1)
-        (λ k l u v q. one_number nodes p n k l (omega arith) (omega arith) (omega arith) q)
-        (sym (at_node nodes i x.0 p x.1) ∙ e ∙ at_node nodes j y.0 p y.1) in
+    (λ k l u v q. one_number nodes p n k l (omega arith) (omega arith) (omega arith) q)
+    (sym (at_node nodes i x.0 p x.1) ∙ e ∙ at_node nodes j y.0 p y.1) in
     p.once i j y.0 (subst (λ node. slice_get nodes i ≡ Some node) same x.1) y.1
 
 -- two numbers of a pool are equal if and only if their conditions are

@@ -32,7 +32,7 @@ module _ (later tables : Tables) (docs : later.docs ≡ tables.docs) (notes : la
   truth-same s (Not x) env = ap not (truth-same s x env)
   truth-same s (Exists v t x) env =
       rw (rows-same t) (any-same (λ row. truth later s x (bind v row env)) (λ row. truth tables s x (bind v row env)) (rows_of t tables)
-          (λ row. truth-same s x (bind v row env)))
+      (λ row. truth-same s x (bind v row env)))
 
 pub of-the-second : (c : Condition) → IsOfTheSecond (truth_of c)
 of-the-second c tables later doc s docs notes = truth-same (visible later s) (visible tables s) docs notes s c (asked_of doc)

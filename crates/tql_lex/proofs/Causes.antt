@@ -35,10 +35,19 @@ big_by : (place b m : ℕ) (rest : List ℕ) (v : Bool) → m ≡ run is_digit r
     (if v then Err (F.BigNumber place) else Ok (token (Number (pos (digits_value 10 (b ∷ take m rest)))) place (suc m)))
 big_by place b m rest true h e q =
     let all : list_all is_digit (take m rest) ≡ true = rw h (run_all is_digit rest) in
-    let stops : Stops is_digit (drop m rest) = rw h (run_ends is_digit rest) in
-    (refl,
-      record { digit = b; digits = take m rest; behind = drop m rest; is = ap (λ r. b ∷ r) (sym (take-append-drop m rest)); all_digits =
-        rw (e, all) refl; no_more = stops_all (drop m rest) stops; too_great = ltb-true most (digits_value 10 (b ∷ take m rest)) q })
+    let stops : Stops is_digit (drop m rest) = rw h (run_ends is_digit rest) in (
+      refl,
+      record {
+        digit = b;
+        digits = take m rest;
+        behind = drop m rest;
+        is = ap (λ r. b ∷ r) (sym (take-append-drop m rest));
+        all_digits =
+            rw (e, all) refl;
+        no_more = stops_all (drop m rest) stops;
+        too_great = ltb-true most (digits_value 10 (b ∷ take m rest)) q;
+      },
+    )
 big_by place b m rest false h e q = tt
 
 big_number : (place b : ℕ) (rest : List ℕ) → is_digit b ≡ true → OnFault place (b ∷ rest) (number_token place (b ∷ rest))
@@ -46,7 +55,7 @@ big_number place b rest e =
     let m = run is_digit rest in
     let n : run is_digit (b ∷ rest) ≡ suc m = run_of is_digit b rest e in
     let G : ℕ → Type 0 = λ n. OnFault place (b ∷ rest) (if nat_lt most (digits_value 10 (take n (b ∷ rest))) then Err (F.BigNumber place)
-          else Ok (token (Number (pos (digits_value 10 (take n (b ∷ rest))))) place n)) in
+    else Ok (token (Number (pos (digits_value 10 (take n (b ∷ rest))))) place n)) in
     subst G (sym n) (big_by place b m rest (nat_lt most (digits_value 10 (b ∷ take m rest))) refl e refl)
 
 no_end : (rest : List ℕ) → quoted rest ≡ None → (content behind : List ℕ) → rest ≡ between_quotes content ++ 39 ∷ behind
@@ -84,15 +93,23 @@ bad_byte : (place b : ℕ) (rest : List ℕ) (l o : Option Sign) → is_between_
     → (b == 39) ≡ false → short_sign b ≡ o → OnFault place (b ∷ rest) (sign_token place l o)
 bad_byte place b rest (Some x) o n w d q e = tt
 bad_byte place b rest None (Some x) n w d q e = tt
-bad_byte place b rest None None n w d q e = (refl, record { byte = b; behind = rest; is = refl; is_no_blank = n;
-        begins_nothing = λ others k h. sign_begins b (b ∷ others) k w d q e h others refl })
+bad_byte place b rest None None n w d q e = (
+  refl,
+  record {
+    byte = b;
+    behind = rest;
+    is = refl;
+    is_no_blank = n;
+    begins_nothing = λ others k h. sign_begins b (b ∷ others) k w d q e h others refl;
+  },
+)
 
 on_fault : (place b : ℕ) (rest : List ℕ) → is_between_tokens b ≡ false → OnFault place (b ∷ rest) (token_at place (b ∷ rest))
 on_fault place b rest n = go (begins_word b) (is_digit b) (b == 39) refl refl refl
   where
     go : (w d q : Bool) → begins_word b ≡ w → is_digit b ≡ d → (b == 39) ≡ q
         → OnFault place (b ∷ rest) (if w then word_token place (b ∷ rest) else if d then number_token place (b ∷ rest) else if q
-          then text_token place (quoted (drop 1 (b ∷ rest))) else sign_token place (long_sign b (get_or (b ∷ rest) 1 0)) (short_sign b))
+        then text_token place (quoted (drop 1 (b ∷ rest))) else sign_token place (long_sign b (get_or (b ∷ rest) 1 0)) (short_sign b))
     go true d q e f g = tt
     go false true q e f g = big_number place b rest f
     go false false true e f g = open_string place b rest (quoted rest) g refl
@@ -115,7 +132,7 @@ behind_one place b rest t (Err fault) s h =
     let l : length (take s.len (b ∷ rest)) ≡ s.len = length-take-le s.len (b ∷ rest) s.inside in
     let G : ℕ → Type 0 = λ n. Reaches (place + n) (drop s.len (b ∷ rest)) h.at h.rest in
     let a : Reaches place (take s.len (b ∷ rest) ++ drop s.len (b ∷ rest)) h.at h.rest =
-        one place (take s.len (b ∷ rest)) (drop s.len (b ∷ rest)) t.kind h.at h.rest s.spells s.ends (subst G (sym l) h.reaches) in
+    one place (take s.len (b ∷ rest)) (drop s.len (b ∷ rest)) t.kind h.at h.rest s.spells s.ends (subst G (sym l) h.reaches) in
     let H : List ℕ → Type 0 = λ text. Reaches place text h.at h.rest in
     record { at = h.at; rest = h.rest; reaches = subst H (take-append-drop s.len (b ∷ rest)) a; cause = h.cause }
 
@@ -144,12 +161,12 @@ on_faults zero place (b ∷ rest) =
     let more : place + 1 + 0 ≡ place + 1 = omega arith in
     let F : ℕ → Type 0 = λ at. OnFaults at rest (tokens_from 0 (place + 1) rest) in
     let G : ℕ → Type 0 = λ at. OnFaults at (b ∷ rest) (if is_between_tokens b then tokens_from zero (place + 1) rest
-          else onto (token_at place (b ∷ rest)) (λ end. tokens_from (end - (place + 1)) (place + 1) rest)) in
+    else onto (token_at place (b ∷ rest)) (λ end. tokens_from (end - (place + 1)) (place + 1) rest)) in
     subst G (sym none) (elim (is_between_tokens b) as (λ t. is_between_tokens b ≡ t → OnFaults place (b ∷ rest) (if t then tokens_from zero
-            (place + 1) rest else onto (token_at place (b ∷ rest)) (λ end. tokens_from (end - (place + 1)) (place + 1) rest))) [
+    (place + 1) rest else onto (token_at place (b ∷ rest)) (λ end. tokens_from (end - (place + 1)) (place + 1) rest))) [
       | true ↦ λ e. behind_blank place b rest (tokens_from 0 (place + 1) rest) e (subst F more (on_faults 0 (place + 1) rest))
       | false ↦ λ e. behind_onto place b rest (token_at place (b ∷ rest)) (on_token place b rest) (on_fault place b rest e) (λ k.
-        on_faults k (place + 1) rest)
+          on_faults k (place + 1) rest)
     ] refl)
 
 -- a fault of a text that isn't too long has its cause
@@ -212,7 +229,7 @@ string_is_open place rest endless = ap (text_token place) (go (quoted rest) refl
     go : (o : Option (List ℕ × ℕ)) → quoted rest ≡ o → OnQuoted rest o → quoted rest ≡ None
     go None e h = e
     go (Some x) e h = absurd (endless x.0 (drop x.1 rest) (sym (take-append-drop x.1 rest) ∙ ap (λ s. s ++ drop x.1 rest) h.0
-            ∙ append_assoc (between_quotes x.0) (39 ∷ []) (drop x.1 rest)) (text_ends x.0 (drop x.1 rest) h.1))
+        ∙ append_assoc (between_quotes x.0) (39 ∷ []) (drop x.1 rest)) (text_ends x.0 (drop x.1 rest) h.1))
 
 stops_from : (rest : List ℕ) → ((b : ℕ) (more : List ℕ) → rest ≡ b ∷ more → is_digit b ≡ false) → Stops is_digit rest
 stops_from [] h = tt
@@ -226,7 +243,7 @@ number_is_big place b r rest all stops great =
     let n : run is_digit ((b ∷ r) ++ rest) ≡ length (b ∷ r) = run_over is_digit (b ∷ r) rest all stops in
     let is_number : token_at place ((b ∷ r) ++ rest) ≡ number_token place ((b ∷ r) ++ rest) = rw (w, e) refl in
     let of : ℕ → List ℕ → Result Token LexFault = λ n ds. if nat_lt most (digits_value 10 ds) then Err (F.BigNumber place)
-        else Ok (token (Number (pos (digits_value 10 ds))) place n) in
+    else Ok (token (Number (pos (digits_value 10 ds))) place n) in
     let big : nat_lt most (digits_value 10 (b ∷ r)) ≡ true = lt-ltb most (digits_value 10 (b ∷ r)) great in
     is_number ∙ ap (λ n. of n (take n ((b ∷ r) ++ rest))) n ∙ ap (of (length (b ∷ r))) (take-append_seam (b ∷ r) rest) ∙ rw big refl
 
@@ -251,7 +268,7 @@ cause_here place text (F.BigNumber p) h =
     let c = h.1 in
     let e : is_digit c.digit ≡ true = (and_parts (is_digit c.digit) (list_all is_digit c.digits) c.all_digits).0 in
     rw (h.0, c.is) (front_fault place c.digit (c.digits ++ c.behind) (F.BigNumber place) (digit_no_blank c.digit e)
-        (number_is_big place c.digit c.digits c.behind c.all_digits (stops_from c.behind c.no_more) c.too_great))
+    (number_is_big place c.digit c.digits c.behind c.all_digits (stops_from c.behind c.no_more) c.too_great))
 cause_here place text (F.TooLong n) h = absurd h
 cause_here place text F.Memory h = absurd h
 

@@ -33,7 +33,7 @@ module _ (b : ℕ) (r rest more : List ℕ) where
       let mine : list_all is_of_word (b ∷ r) ≡ true = rw (e, all) refl in
       let n = all_within is_of_word (c ∷ s) more whole in
       let m : run is_of_word ((c ∷ s) ++ more) ≡ length (b ∷ r) = sym (ap (run is_of_word) q)
-          ∙ run_over is_of_word (b ∷ r) rest mine stops in
+      ∙ run_over is_of_word (b ∷ r) rest mine stops in
       omega (arith, n, m)
   word_longest e all stops other k q (number_is c s f every fits) =
       let h : b ≡ c = cc in
@@ -78,7 +78,7 @@ quotes_longest (c ∷ content) rest (d ∷ other) more stops q =
     go (c == 39) (d == 39) refl refl (quotes_longest content rest other more stops) q
   where
     go : (t u : Bool) → (c == 39) ≡ t → (d == 39) ≡ u → (between_quotes content ++ 39 ∷ rest ≡ between_quotes other ++ 39 ∷ more
-          → length (between_quotes other) ≤ length (between_quotes content)) → (if t then 39 ∷ 39 ∷ [] else c ∷ [])
+        → length (between_quotes other) ≤ length (between_quotes content)) → (if t then 39 ∷ 39 ∷ [] else c ∷ [])
         ++ between_quotes content ++ 39 ∷ rest ≡ (if u then 39 ∷ 39 ∷ [] else d ∷ []) ++ between_quotes other ++ 39 ∷ more
         → length ((if u then 39 ∷ 39 ∷ [] else d ∷ []) ++ between_quotes other)
         ≤ length ((if t then 39 ∷ 39 ∷ [] else c ∷ []) ++ between_quotes content)
@@ -99,7 +99,7 @@ text_longest content rest more stops other k q (number_is c s f every fits) =
 text_longest content rest more stops other k q (text_is held) =
     let h : (between_quotes content ++ 39 ∷ []) ++ rest ≡ (between_quotes held ++ 39 ∷ []) ++ more = cc in
     let n = quotes_longest content rest held more stops
-        (sym (append_assoc (between_quotes content) (39 ∷ []) rest) ∙ h ∙ append_assoc (between_quotes held) (39 ∷ []) more) in
+    (sym (append_assoc (between_quotes content) (39 ∷ []) rest) ∙ h ∙ append_assoc (between_quotes held) (39 ∷ []) more) in
     omega (arith, n, length-append (between_quotes content) (39 ∷ []), length-append (between_quotes held) (39 ∷ []))
 text_longest content rest more stops other k q (short_is c sign f) = omega arith
 text_longest content rest more stops other k q (long_is c d sign f) =

@@ -75,7 +75,7 @@ module _ (place b : ℕ) (r rest : List ℕ) where
       let n : run is_of_word ((b ∷ r) ++ rest) ≡ length (b ∷ r) = run_over is_of_word (b ∷ r) rest whole stops in
       let is_word : token_at place ((b ∷ r) ++ rest) ≡ word_token place ((b ∷ r) ++ rest) = rw e refl in
       is_word ∙ ap (λ n. Ok (token (Word (str_to_ascii_lowercase (take n ((b ∷ r) ++ rest)))) place n)) n
-        ∙ ap (λ w. Ok (token (Word (str_to_ascii_lowercase w)) place (length (b ∷ r)))) (take-append_seam (b ∷ r) rest)
+      ∙ ap (λ w. Ok (token (Word (str_to_ascii_lowercase w)) place (length (b ∷ r)))) (take-append_seam (b ∷ r) rest)
 
   number_read : is_digit b ≡ true → list_all is_digit r ≡ true → digits_value 10 (b ∷ r) ≤ most → Stops is_digit rest
       → token_at place ((b ∷ r) ++ rest) ≡ Ok (token (Number (pos (digits_value 10 (b ∷ r)))) place (length (b ∷ r)))
@@ -85,7 +85,7 @@ module _ (place b : ℕ) (r rest : List ℕ) where
       let f : begins_word b ≡ false = digit_begins_no_word b e in
       let is_number : token_at place ((b ∷ r) ++ rest) ≡ number_token place ((b ∷ r) ++ rest) = rw (f, e) refl in
       let of : ℕ → List ℕ → Result Token LexFault = λ n ds. if nat_lt most (digits_value 10 ds) then Err (F.BigNumber place)
-          else Ok (token (Number (pos (digits_value 10 ds))) place n) in
+      else Ok (token (Number (pos (digits_value 10 ds))) place n) in
       let small : nat_lt most (digits_value 10 (b ∷ r)) ≡ false = le-ltb most (digits_value 10 (b ∷ r)) fits in
       is_number ∙ ap (λ n. of n (take n ((b ∷ r) ++ rest))) n ∙ ap (of (length (b ∷ r))) (take-append_seam (b ∷ r) rest) ∙ rw small refl
 
@@ -148,9 +148,9 @@ text_read : (place : ℕ) (content rest : List ℕ) → Stops (λ b. b == 39) re
     ≡ Ok (token (Str content) place (length (39 ∷ (between_quotes content ++ 39 ∷ []))))
 text_read place content rest stops =
     let n : 1 + (length (between_quotes content) + 1) ≡ length (39 ∷ (between_quotes content ++ 39 ∷ [])) =
-        omega (arith, length-append (between_quotes content) (39 ∷ [])) in
+    omega (arith, length-append (between_quotes content) (39 ∷ [])) in
     ap (λ (x : List ℕ). text_token place (quoted x)) (append_assoc (between_quotes content) (39 ∷ []) rest)
-        ∙ ap (text_token place) (quoted_over content rest stops) ∙ rw n refl
+    ∙ ap (text_token place) (quoted_over content rest stops) ∙ rw n refl
 
 pub ends_text : (content rest : List ℕ) → ends_before (Str content) rest ≡ true → Stops (λ b. b == 39) rest
 ends_text content [] e = tt
@@ -190,8 +190,8 @@ front_read place b tail rest kind calm is =
     let k : end - (place + 1) ≡ length tail = omega arith in
     let q : place + 1 + length tail ≡ end = omega arith in
     let skip : others end ≡ tokens_from 0 end rest = ap (λ k. tokens_from k (place + 1) (tail ++ rest)) k
-        ∙ tokens_skip (length tail) (place + 1) (tail ++ rest) ∙ ap (λ q. tokens_from 0 q (drop (length tail) (tail ++ rest))) q
-        ∙ ap (tokens_from 0 end) (drop-append_seam tail rest) in
+    ∙ tokens_skip (length tail) (place + 1) (tail ++ rest) ∙ ap (λ q. tokens_from 0 q (drop (length tail) (tail ++ rest))) q
+    ∙ ap (tokens_from 0 end) (drop-append_seam tail rest) in
     front ∙ ap (λ r. onto r others) is ∙ ap (with_front (token kind place (length (b ∷ tail)) ∷ [])) skip
 
 pub spelling_step : (place : ℕ) (s rest : List ℕ) (kind : Kind) → Spells s kind → ends_before kind rest ≡ true
@@ -200,7 +200,7 @@ spelling_step place s rest kind h n =
     let f = first_of s kind h in
     let F : List ℕ → Type 0 = λ s. token_at place (s ++ rest) ≡ Ok (token kind place (length s)) in
     let G : List ℕ → Type 0 =
-        λ s. tokens_from 0 place (s ++ rest) ≡ with_front (token kind place (length s) ∷ []) (tokens_from 0 (place + length s) rest) in
+    λ s. tokens_from 0 place (s ++ rest) ≡ with_front (token kind place (length s) ∷ []) (tokens_from 0 (place + length s) rest) in
     subst G (sym f.is) (front_read place f.byte f.others rest kind f.not_blank (subst F f.is (spelling_read place s rest kind h n)))
 
 -- tokens that a text is are read from it

@@ -78,9 +78,14 @@ module _ (place b : ℕ) (rest : List ℕ) where
       let n : run is_of_word (b ∷ rest) ≡ suc m = run_of is_of_word b rest (rw e refl) in
       let G : ℕ → Type 0 = λ n. OnToken place (b ∷ rest) (Ok (token (Word (str_to_ascii_lowercase (take n (b ∷ rest)))) place n)) in
       let l = run_within is_of_word rest in
-      subst G (sym n) (record { len = suc m; some = omega arith; inside = omega arith; is = refl;
-              spells = word_is b (take m rest) e (run_all is_of_word rest);
-              ends = word_ends (str_to_ascii_lowercase (b ∷ take m rest)) (drop m rest) (run_ends is_of_word rest) })
+      subst G (sym n) (record {
+        len = suc m;
+        some = omega arith;
+        inside = omega arith;
+        is = refl;
+        spells = word_is b (take m rest) e (run_all is_of_word rest);
+        ends = word_ends (str_to_ascii_lowercase (b ∷ take m rest)) (drop m rest) (run_ends is_of_word rest);
+      })
 
   number_by : (m : ℕ) (v : Bool) → nat_lt most (digits_value 10 (b ∷ take m rest)) ≡ v → m ≡ run is_digit rest → is_digit b ≡ true
       → OnToken place (b ∷ rest)
@@ -88,16 +93,22 @@ module _ (place b : ℕ) (rest : List ℕ) where
   number_by m true q h e = tt
   number_by m false q h e =
       let l = run_within is_digit rest in
-      record { len = suc m; some = omega arith; inside = omega arith; is = refl; spells = rw h (number_is b (take (run is_digit rest) rest)
+      record {
+        len = suc m;
+        some = omega arith;
+        inside = omega arith;
+        is = refl;
+        spells = rw h (number_is b (take (run is_digit rest) rest)
             e (run_all is_digit rest) (rw h at (ltb-false most (digits_value 10 (b ∷ take m rest)) q)));
-          ends = number_ends (pos (digits_value 10 (b ∷ take m rest))) (drop m rest) (rw h (run_ends is_digit rest)) }
+        ends = number_ends (pos (digits_value 10 (b ∷ take m rest))) (drop m rest) (rw h (run_ends is_digit rest));
+      }
 
   of_number : is_digit b ≡ true → OnToken place (b ∷ rest) (number_token place (b ∷ rest))
   of_number e =
       let m = run is_digit rest in
       let n : run is_digit (b ∷ rest) ≡ suc m = run_of is_digit b rest e in
       let of : ℕ → Result Token LexFault = λ n. if nat_lt most (digits_value 10 (take n (b ∷ rest))) then Err (F.BigNumber place)
-          else Ok (token (Number (pos (digits_value 10 (take n (b ∷ rest))))) place n) in
+      else Ok (token (Number (pos (digits_value 10 (take n (b ∷ rest))))) place n) in
       let G : ℕ → Type 0 = λ n. OnToken place (b ∷ rest) (of n) in
       subst G (sym n) (number_by m (nat_lt most (digits_value 10 (b ∷ take m rest))) refl refl e)
 
@@ -119,7 +130,7 @@ with_quote b c rest (Some x) e f h =
     let p = is_quote b e in
     let q = is_quote c f in
     let G : ℕ → Type 0 = λ n. (take n (b ∷ c ∷ rest) ≡ between_quotes (b ∷ x.0) ++ 39 ∷ []) × Stops (λ b. b == 39) (drop n (b ∷ c ∷ rest))
-        × (n ≤ length (b ∷ c ∷ rest)) in
+    × (n ≤ length (b ∷ c ∷ rest)) in
     subst G (sym n) (rw (p, q, h.0) refl, h.1, omega (arith, h.2))
 
 with_byte : (b : ℕ) (rest : List ℕ) (o : Option (List ℕ × ℕ)) → (b == 39) ≡ false → OnQuoted rest o
@@ -128,7 +139,7 @@ with_byte b rest None e h = tt
 with_byte b rest (Some x) e h =
     let n : 1 + x.1 ≡ suc x.1 = omega arith in
     let G : ℕ → Type 0 = λ n. (take n (b ∷ rest) ≡ between_quotes (b ∷ x.0) ++ 39 ∷ []) × Stops (λ b. b == 39) (drop n (b ∷ rest))
-        × (n ≤ length (b ∷ rest)) in
+    × (n ≤ length (b ∷ rest)) in
     subst G (sym n) (rw (e, h.0) refl, h.1, omega (arith, h.2))
 
 pub on_quoted : (text : List ℕ) → OnQuoted text (quoted text)
@@ -156,8 +167,14 @@ of_text place b rest e (Some x) h =
     let G : ℕ → Type 0 = λ n. OnToken place (b ∷ rest) (Ok (token (Str x.0) place n)) in
     let F : List ℕ → Type 0 = λ s. Spells s (Str x.0) in
     let w : 39 ∷ (between_quotes x.0 ++ 39 ∷ []) ≡ take (suc x.1) (b ∷ rest) = rw (q, h.0) refl in
-    subst G (sym n) (record { len = suc x.1; some = omega arith; inside = omega (arith, h.2); is = refl; spells = subst F w (text_is x.0);
-            ends = text_ends x.0 (drop x.1 rest) h.1 })
+    subst G (sym n) (record {
+      len = suc x.1;
+      some = omega arith;
+      inside = omega (arith, h.2);
+      is = refl;
+      spells = subst F w (text_is x.0);
+      ends = text_ends x.0 (drop x.1 rest) h.1;
+    })
 
 -- no byte goes on with a sign of two bytes
 long_ends : (b c : ℕ) (sign : Sign) (rest : List ℕ) → long_sign b c ≡ Some sign → ends_before (Mark sign) rest ≡ true
@@ -217,7 +234,7 @@ on_token place b rest = go (begins_word b) (is_digit b) (b == 39) refl refl refl
   where
     go : (w d q : Bool) → begins_word b ≡ w → is_digit b ≡ d → (b == 39) ≡ q
         → OnToken place (b ∷ rest) (if w then word_token place (b ∷ rest) else if d then number_token place (b ∷ rest) else if q
-          then text_token place (quoted (drop 1 (b ∷ rest))) else sign_token place (long_sign b (get_or (b ∷ rest) 1 0)) (short_sign b))
+        then text_token place (quoted (drop 1 (b ∷ rest))) else sign_token place (long_sign b (get_or (b ∷ rest) 1 0)) (short_sign b))
     go true d q e f g = of_word place b rest e
     go false true q e f g = of_number place b rest f
     go false false true e f g = of_text place b rest g (quoted rest) (on_quoted rest)
@@ -239,8 +256,8 @@ on_one place b rest t (Ok tokens) s h =
     let l : length (take s.len (b ∷ rest)) ≡ s.len = length-take-le s.len (b ∷ rest) s.inside in
     let F : ℕ → Type 0 = λ n. AreTokens (place + n) (drop s.len (b ∷ rest)) tokens in
     let a :
-        AreTokens place (take s.len (b ∷ rest) ++ drop s.len (b ∷ rest)) (token t.kind place (length (take s.len (b ∷ rest))) ∷ tokens) =
-        one place (take s.len (b ∷ rest)) (drop s.len (b ∷ rest)) t.kind tokens s.spells s.ends (subst F (sym l) h) in
+    AreTokens place (take s.len (b ∷ rest) ++ drop s.len (b ∷ rest)) (token t.kind place (length (take s.len (b ∷ rest))) ∷ tokens) =
+    one place (take s.len (b ∷ rest)) (drop s.len (b ∷ rest)) t.kind tokens s.spells s.ends (subst F (sym l) h) in
     let G : List ℕ → Type 0 = λ text. AreTokens place text (token t.kind place (length (take s.len (b ∷ rest))) ∷ tokens) in
     let w : token t.kind place (length (take s.len (b ∷ rest))) ≡ t = ap (λ n. token t.kind place n) l ∙ sym s.is in
     let H : Token → Type 0 = λ u. AreTokens place (b ∷ rest) (u ∷ tokens) in
@@ -271,9 +288,9 @@ on_tokens zero place (b ∷ rest) =
     let more : place + 1 + 0 ≡ place + 1 = omega arith in
     let F : ℕ → Type 0 = λ at. OnTokens at rest (tokens_from 0 (place + 1) rest) in
     let G : ℕ → Type 0 = λ at. OnTokens at (b ∷ rest) (if is_between_tokens b then tokens_from zero (place + 1) rest
-          else onto (token_at place (b ∷ rest)) (λ end. tokens_from (end - (place + 1)) (place + 1) rest)) in
+    else onto (token_at place (b ∷ rest)) (λ end. tokens_from (end - (place + 1)) (place + 1) rest)) in
     subst G (sym none) (elim (is_between_tokens b) as (λ t. is_between_tokens b ≡ t → OnTokens place (b ∷ rest) (if t then tokens_from zero
-            (place + 1) rest else onto (token_at place (b ∷ rest)) (λ end. tokens_from (end - (place + 1)) (place + 1) rest))) [
+    (place + 1) rest else onto (token_at place (b ∷ rest)) (λ end. tokens_from (end - (place + 1)) (place + 1) rest))) [
       | true ↦ λ e. on_blank place b rest (tokens_from 0 (place + 1) rest) e (subst F more (on_tokens 0 (place + 1) rest))
       | false ↦ λ e. on_onto place b rest (token_at place (b ∷ rest)) (on_token place b rest) (λ k. on_tokens k (place + 1) rest)
     ] refl)

@@ -41,5 +41,5 @@ pub fn faults_have_causes()
         → (4096 < length text → lexed text ≡ Err (TooLong (length text)))
         × ((fault : TheFault) → length text ≤ 4096
         → (lexed text ≡ Err fault → FaultIn 0 text fault)
-            × (FaultIn 0 text fault → lexed text ≡ Err fault)) }
+        × (FaultIn 0 text fault → lexed text ≡ Err fault)) }
 {}

@@ -95,7 +95,7 @@ group_is : (n : ℕ) (ts : List Token) (x : Syntax) (close : Token) (rest : List
 group_is n ts x close rest h c =
     let k = close_quiet (key close.kind) c in
     ap (λ (r : Read Syntax). r >>= λ x. one (λ k. is_close (key k)) x.1 >>= λ close. Ok (x.0, close.1))
-        (cond_is n ts x (close ∷ rest) h k.0 k.1 k.2) ∙ rw c refl
+    (cond_is n ts x (close ∷ rest) h k.0 k.1 k.2) ∙ rw c refl
 
 table_is : (t : Token) (which : Table) (rest : List Token) → IsTable t which → table_at (t ∷ rest) ≡ Ok (which, rest)
 table_is t which rest (docs u k) = rw k refl
@@ -107,12 +107,12 @@ complete p n ts x rest (conj_alone m us y r h) = λ q a.
 complete p n ts x rest (or_conj m us l o mid y r a b c) = λ q e.
     let k = or_quiet (key o.kind) b in
     chain_more is_or Or (conj_with (unit_at m)) (conj_shrinks m) l y (o ∷ mid) r (cond_at m us) b (complete Cond m us l (o ∷ mid) a k.0 k.1)
-      (conj_is m mid y r (complete Conj m mid y r c) q e)
+    (conj_is m mid y r (complete Conj m mid y r c) q e)
 complete p n ts x rest (unit_alone m us y r h) =
     λ q. ap (λ (r : Read Syntax). r >>= λ x. chained is_and And (unit_at m) x.0 x.1) (complete One m us y r h q)
 complete p n ts x rest (and_unit m us l o mid y r a b c) = λ q.
     chain_more is_and And (unit_at m) (unit_shrinks m) l y (o ∷ mid) r (conj_at m us) b
-      (complete Conj m us l (o ∷ mid) a (and_quiet (key o.kind) b)) (complete One m mid y r c q)
+    (complete Conj m us l (o ∷ mid) a (and_quiet (key o.kind) b)) (complete One m mid y r c q)
 complete p n ts x rest (not_unit m t us y r k h) = λ q. at_suc m t us O.Negation (rw k refl)
     ∙ ap (λ (r : Read Syntax). r >>= λ x. Ok (Not x.0, x.1)) (complete One m us y r h q)
 complete p n ts x rest (group m t us y close r k h c) = λ q. at_suc m t us O.Group (rw k refl)

@@ -61,8 +61,10 @@ pub record Digs (A : Type 0) (f g : List Token → Read A) : Type 0 where
 
 digs_bind : (A B : Type 0) (f g : List Token → Read A) (h k : A × List Token → Read B) → Digs A f g
     → ((a : A) → Digs B (λ ts. h (a, ts)) (λ ts. k (a, ts))) → Digs B (λ ts. f ts >>= h) (λ ts. g ts >>= k)
-digs_bind A B f g h k d c = record { spent = spent_bind A B (g []) k d.spent (λ a. (c a).spent);
-      out = λ t b r m. dig_bind A B t h k (f b) (f r) (g r) (d.out t b r m) (λ a b' r' n. (c a).out t b' r' n) (λ a. (c a).spent) }
+digs_bind A B f g h k d c = record {
+  spent = spent_bind A B (g []) k d.spent (λ a. (c a).spent);
+  out = λ t b r m. dig_bind A B t h k (f b) (f r) (g r) (d.out t b r m) (λ a b' r' n. (c a).out t b' r' n) (λ a. (c a).spent);
+}
 
 stuck_at : (A : Type 0) (t : Token) (x z : Read A) (e : ParseFault) → IsAt t e → ((p : ℕ) → e ≡ Deep p → ⊥) → Dig A t x (Err e) z
 stuck_at A t x z (Unexpected p) i n = refused x z p
@@ -97,15 +99,15 @@ module _ (u v : List Token → Read Syntax) (d : Digs Syntax u v) (su : Shrinks 
       → Dig Syntax t (chain sep join u (suc k) x b) (chain sep join u (suc k) x r) (chain sep join v (suc k) x r)
   chain_at k ih x t b r alone =
       elim (sep (key t.kind)) as (λ s. Dig Syntax t (Ok (x, [])) (if s then (u [] >>= λ r. chain sep join u k (join x r.0) r.1)
-            else Ok (x, t ∷ [])) (if s then (v [] >>= λ r. chain sep join v k (join x r.0) r.1) else Ok (x, t ∷ []))) [
+      else Ok (x, t ∷ [])) (if s then (v [] >>= λ r. chain sep join v k (join x r.0) r.1) else Ok (x, t ∷ []))) [
         | true ↦
-          taken _ _ _ (spent_bind Syntax Syntax (v []) (λ r. chain sep join v k (join x r.0) r.1) d.spent (λ a. chain_spent k (join x a)))
+            taken _ _ _ (spent_bind Syntax Syntax (v []) (λ r. chain sep join v k (join x r.0) r.1) d.spent (λ a. chain_spent k (join x a)))
         | false ↦ goes x [] (t ∷ []) alone
       ]
   chain_at k ih x t b r (behind o c s m) =
       elim (sep (key o.kind)) as (λ s'. Dig Syntax t (if s' then (u c >>= λ r. chain sep join u k (join x r.0) r.1) else Ok (x, o ∷ c))
-          (if s' then (u s >>= λ r. chain sep join u k (join x r.0) r.1) else Ok (x, o ∷ s))
-          (if s' then (v s >>= λ r. chain sep join v k (join x r.0) r.1) else Ok (x, o ∷ s))) [
+      (if s' then (u s >>= λ r. chain sep join u k (join x r.0) r.1) else Ok (x, o ∷ s))
+      (if s' then (v s >>= λ r. chain sep join v k (join x r.0) r.1) else Ok (x, o ∷ s))) [
         | true ↦ (digs_bind Syntax Syntax u v (λ r. chain sep join u k (join x r.0) r.1) (λ r. chain sep join v k (join x r.0) r.1) d
             (λ a. ih (join x a))).out t c s m
         | false ↦ goes x (o ∷ c) (o ∷ s) (behind o c s m)
@@ -121,9 +123,9 @@ module _ (u v : List Token → Read Syntax) (d : Digs Syntax u v) (su : Shrinks 
     out = λ t b r m.
         let k = length b + length r in
         three Syntax t _ _ _ (chain sep join u k x b) (chain sep join u k x r) (chain sep join v k x r)
-          (same sep join u su (length b) k x b (omega arith) (omega arith))
-          (same sep join u su (length r) k x r (omega arith) (omega arith))
-          (same sep join v sv (length r) k x r (omega arith) (omega arith)) ((dig_chain k x).out t b r m);
+        (same sep join u su (length b) k x b (omega arith) (omega arith))
+        (same sep join u su (length r) k x r (omega arith) (omega arith))
+        (same sep join v sv (length r) k x r (omega arith) (omega arith)) ((dig_chain k x).out t b r m);
   }
 
 module _ (n m : ℕ) (d : Digs Syntax (unit_at n) (unit_at m)) where

@@ -171,7 +171,7 @@ module _ (Q : List Token → Type 0) (s : Shift) (m : ℕ) (is : s.count ≡ pos
             Some (record { place = sign.place; back = false; count_place = count.place; count = number_of_kind count.kind; unit = s.unit });
         rest = ws;
         reads = some (sign ∷ count ∷ unit ∷ ws) _ ws (forward sign count unit s.unit ws (is_key sign (W.Mark S.Plus) (K.Mark S.Plus) e refl)
-              (ap is_number k) (is_key unit (W.Word (word_of_unit s.unit)) (K.Unit s.unit) g (unit_key s.unit)));
+            (ap is_number k) (is_key unit (W.Word (word_of_unit s.unit)) (K.Unit s.unit) g (unit_key s.unit)));
         same = rw (b, is, f) refl;
         after = q;
       }
@@ -185,7 +185,7 @@ module _ (Q : List Token → Type 0) (s : Shift) (m : ℕ) (is : s.count ≡ pos
             Some (record { place = sign.place; back = true; count_place = count.place; count = number_of_kind count.kind; unit = s.unit });
         rest = ws;
         reads = some (sign ∷ count ∷ unit ∷ ws) _ ws (back sign count unit s.unit ws (is_key sign (W.Mark S.Minus) (K.Mark S.Minus) e refl)
-              (ap is_number k) (is_key unit (W.Word (word_of_unit s.unit)) (K.Unit s.unit) g (unit_key s.unit)));
+            (ap is_number k) (is_key unit (W.Word (word_of_unit s.unit)) (K.Unit s.unit) g (unit_key s.unit)));
         same = rw (b, is, f) refl;
         after = q;
       }
@@ -193,7 +193,7 @@ module _ (Q : List Token → Type 0) (s : Shift) (m : ℕ) (is : s.count ≡ pos
   module _ (rest : List ℕ) (c : closes rest ≡ true) (l : Lexes rest Q) (fits : m ≤ most) where
     unit_put : Lexes (32 ∷ (text_of_unit s.unit ++ rest)) (Next (W.Word (word_of_unit s.unit)) Q)
     unit_put = skip 32 _ _ refl (put (text_of_unit s.unit) rest (W.Word (word_of_unit s.unit)) Q (unit_spelled s.unit)
-          (closes_ends (W.Word (word_of_unit s.unit)) rest c) l)
+        (closes_ends (W.Word (word_of_unit s.unit)) rest c) l)
 
     count_put :
         Lexes (32 ∷ (decimal m ++ (32 ∷ (text_of_unit s.unit ++ rest)))) (Next (W.Number (pos m)) (Next (W.Word (word_of_unit s.unit)) Q))
@@ -214,7 +214,7 @@ module _ (Q : List Token → Type 0) (s : Shift) (m : ℕ) (is : s.count ≡ pos
         let u = text_of_unit s.unit in
         let e : n ≡ decimal m = ap signed_decimal is in
         nest ((d ++ n) ++ (32 ∷ [])) u rest _ (nest (d ++ n) (32 ∷ []) (u ++ rest) _ (nest d n (32 ∷ (u ++ rest)) _
-              (same_text _ (d ++ (decimal m ++ (32 ∷ (u ++ rest)))) _ (ap (λ x. d ++ (x ++ (32 ∷ (u ++ rest)))) e) (shift_by s.back refl))))
+        (same_text _ (d ++ (decimal m ++ (32 ∷ (u ++ rest)))) _ (ap (λ x. d ++ (x ++ (32 ∷ (u ++ rest)))) e) (shift_by s.back refl))))
 
 counted : (s : Shift) (n : ℤ) → s.count ≡ n → IsCount n → (m : ℕ) × (s.count ≡ pos m) × (m ≤ most)
 counted s (pos m) e h = (m, e, h)
@@ -248,32 +248,64 @@ same_plain (Some a) (Some b) e v p f q w r g t = refl
 
 module _ (Q : List Token → Type 0) where
   made_number : (p m : ℕ) (ts : List Token) → Next (W.Number (pos m)) Q ts → ExprBack (E.Number p (pos m)) Q ts
-  made_number p m ts (next t us e q) = record { value = E.Number t.place (number_of_kind t.kind); rest = us;
-        reads = the_number t us (is_key t (W.Number (pos m)) K.Number e (number_key m)); same = (rw e refl, refl); after = q }
+  made_number p m ts (next t us e q) = record {
+    value = E.Number t.place (number_of_kind t.kind);
+    rest = us;
+    reads = the_number t us (is_key t (W.Number (pos m)) K.Number e (number_key m));
+    same = (rw e refl, refl);
+    after = q;
+  }
 
   made_negative : (p m : ℕ) (ts : List Token) → Next (W.Mark S.Minus) (Next (W.Number (pos (suc m))) Q) ts
       → ExprBack (E.Number p (negsuc m)) Q ts
-  made_negative p m ts (next sign vs f (next t us e q)) = record { value = E.Number sign.place (pos 0 -ℤ number_of_kind t.kind); rest = us;
-        reads = negative sign t us (is_key sign (W.Mark S.Minus) (K.Mark S.Minus) f refl) (ap is_number
-          (is_key t (W.Number (pos (suc m))) K.Number e (number_key (suc m)))); same = (rw (e, minus_is m) refl, refl); after = q }
+  made_negative p m ts (next sign vs f (next t us e q)) = record {
+    value = E.Number sign.place (pos 0 -ℤ number_of_kind t.kind);
+    rest = us;
+    reads = negative sign t us (is_key sign (W.Mark S.Minus) (K.Mark S.Minus) f refl) (ap is_number
+        (is_key t (W.Number (pos (suc m))) K.Number e (number_key (suc m))));
+    same = (rw (e, minus_is m) refl, refl);
+    after = q;
+  }
 
   made_text : (p : ℕ) (content : List ℕ) (ts : List Token) → Next (W.Str content) Q ts → ExprBack (E.Str p content) Q ts
-  made_text p content ts (next t us e q) = record { value = E.Str t.place (bytes t.kind); rest = us;
-        reads = the_text t us (is_key t (W.Str content) K.Str e refl); same = (rw e refl, refl); after = q }
+  made_text p content ts (next t us e q) = record {
+    value = E.Str t.place (bytes t.kind);
+    rest = us;
+    reads = the_text t us (is_key t (W.Str content) K.Str e refl);
+    same = (rw e refl, refl);
+    after = q;
+  }
 
   made_now : (p : ℕ) (s : Option Shift) (ts : List Token) → Next (W.Word (codes "now")) (ShiftBack s Q) ts → ExprBack (E.Now p s) Q ts
-  made_now p s ts (next t us e b) = record { value = E.Now t.place b.value; rest = b.rest; reads = now t us
-        b.value b.rest (is_key t (W.Word (codes "now")) K.Now e refl) b.reads; same = (ap (E.Now 0) b.same, refl); after = b.after }
+  made_now p s ts (next t us e b) = record {
+    value = E.Now t.place b.value;
+    rest = b.rest;
+    reads = now t us
+        b.value b.rest (is_key t (W.Word (codes "now")) K.Now e refl) b.reads;
+    same = (ap (E.Now 0) b.same, refl);
+    after = b.after;
+  }
 
   made_today : (p : ℕ) (s : Option Shift) (ts : List Token) → Next (W.Word (codes "today")) (ShiftBack s Q) ts → ExprBack (E.Today p s) Q ts
-  made_today p s ts (next t us e b) = record { value = E.Today t.place b.value; rest = b.rest; reads = today t us
-        b.value b.rest (is_key t (W.Word (codes "today")) K.Today e refl) b.reads; same = (ap (E.Today 0) b.same, refl); after = b.after }
+  made_today p s ts (next t us e b) = record {
+    value = E.Today t.place b.value;
+    rest = b.rest;
+    reads = today t us
+        b.value b.rest (is_key t (W.Word (codes "today")) K.Today e refl) b.reads;
+    same = (ap (E.Today 0) b.same, refl);
+    after = b.after;
+  }
 
   made_moment : (p : ℕ) (content : List ℕ) (s : Option Shift) (ts : List Token)
       → Next (W.Word (codes "time")) (Next (W.Str content) (ShiftBack s Q)) ts → ExprBack (E.Moment p content s) Q ts
-  made_moment p content s ts (next t vs e (next x us f b)) = record { value = E.Moment x.place (bytes x.kind) b.value; rest = b.rest;
-        reads = moment t x us b.value b.rest (is_key t (W.Word (codes "time")) K.Time e refl)
-        (ap is_text (is_key x (W.Str content) K.Str f refl)) b.reads; same = (rw (f, b.same) refl, refl); after = b.after }
+  made_moment p content s ts (next t vs e (next x us f b)) = record {
+    value = E.Moment x.place (bytes x.kind) b.value;
+    rest = b.rest;
+    reads = moment t x us b.value b.rest (is_key t (W.Word (codes "time")) K.Time e refl)
+        (ap is_text (is_key x (W.Str content) K.Str f refl)) b.reads;
+    same = (rw (f, b.same) refl, refl);
+    after = b.after;
+  }
 
   made_field : (var : List ℕ) (p : ℕ) (name : List ℕ) (q : ℕ) (s : Option Shift) → word_key var ≡ K.Name → (ts : List Token)
       → Next (W.Word var) (Next (W.Mark S.Dot) (Next (W.Word name) (ShiftBack s Q))) ts → ExprBack (E.Field var p name q s) Q ts
@@ -300,27 +332,27 @@ expr_back (E.Number p (pos m)) g rest Q c l = turn _ _ _ (made_number Q p m)
     (put (decimal m) rest (W.Number (pos m)) Q (decimal_spelled m g) (closes_ends (W.Number (pos m)) rest c) l)
 expr_back (E.Number p (negsuc m)) g rest Q c l = turn _ _ _ (made_negative Q p m)
     (put (45 ∷ []) (decimal (suc m) ++ rest) (W.Mark S.Minus) (Next (W.Number (pos (suc m))) Q) (short_is 45 S.Minus refl) (minus_ends _)
-      (put (decimal (suc m)) rest (W.Number (pos (suc m))) Q (decimal_spelled (suc m) g) (closes_ends (W.Number (pos (suc m))) rest c) l))
+    (put (decimal (suc m)) rest (W.Number (pos (suc m))) Q (decimal_spelled (suc m) g) (closes_ends (W.Number (pos (suc m))) rest c) l))
 expr_back (E.Str p content) g rest Q c l = turn _ _ _ (made_text Q p content)
     (put (text_of_bytes content) rest (W.Str content) Q (text_spelled content) (closes_ends (W.Str content) rest c) l)
 expr_back (E.Now p s) g rest Q c l = turn _ _ _ (made_now Q p s)
     (put (codes "NOW") (text_of_shift s ++ rest) (W.Word (codes "now")) (ShiftBack s Q) (word_is 78 (codes "OW") refl refl)
-      (closes_ends (W.Word (codes "now")) (text_of_shift s ++ rest) (shift_closes s rest c)) (shift_back s g rest Q c l))
+    (closes_ends (W.Word (codes "now")) (text_of_shift s ++ rest) (shift_closes s rest c)) (shift_back s g rest Q c l))
 expr_back (E.Today p s) g rest Q c l = turn _ _ _ (made_today Q p s)
     (put (codes "TODAY") (text_of_shift s ++ rest) (W.Word (codes "today")) (ShiftBack s Q) (word_is 84 (codes "ODAY") refl refl)
-      (closes_ends (W.Word (codes "today")) (text_of_shift s ++ rest) (shift_closes s rest c)) (shift_back s g rest Q c l))
+    (closes_ends (W.Word (codes "today")) (text_of_shift s ++ rest) (shift_closes s rest c)) (shift_back s g rest Q c l))
 expr_back (E.Moment p content s) g rest Q c l =
     same_text _ (codes "TIME " ++ (text_of_bytes content ++ (text_of_shift s ++ rest))) _
-      (ap (λ x. codes "TIME " ++ x) (append_assoc (text_of_bytes content) (text_of_shift s) rest))
+    (ap (λ x. codes "TIME " ++ x) (append_assoc (text_of_bytes content) (text_of_shift s) rest))
     (turn _ _ _ (made_moment Q p content s) (put (codes "TIME") (32 ∷ (text_of_bytes content ++ (text_of_shift s ++ rest)))
-        (W.Word (codes "time")) (Next (W.Str content) (ShiftBack s Q)) (word_is 84 (codes "IME") refl refl) refl
+    (W.Word (codes "time")) (Next (W.Str content) (ShiftBack s Q)) (word_is 84 (codes "IME") refl refl) refl
     (skip 32 _ _ refl (put (text_of_bytes content) (text_of_shift s ++ rest) (W.Str content) (ShiftBack s Q) (text_spelled content)
-        (closes_ends (W.Str content) (text_of_shift s ++ rest) (shift_closes s rest c)) (shift_back s g rest Q c l)))))
+    (closes_ends (W.Str content) (text_of_shift s ++ rest) (shift_closes s rest c)) (shift_back s g rest Q c l)))))
 expr_back (E.Field var p name q s) g rest Q c l =
     let x = text_of_shift s ++ rest in
     nest ((var ++ (46 ∷ [])) ++ name) (text_of_shift s) rest _ (nest (var ++ (46 ∷ [])) name x _ (nest var (46 ∷ []) (name ++ x) _
     (turn _ _ _ (made_field Q var p name q s (name_key (word_key var) g.0.1))
-      (put var (46 ∷ (name ++ x)) (W.Word var) (Next (W.Mark S.Dot) (Next (W.Word name) (ShiftBack s Q))) g.0.0 refl
+    (put var (46 ∷ (name ++ x)) (W.Word var) (Next (W.Mark S.Dot) (Next (W.Word name) (ShiftBack s Q))) g.0.0 refl
     (put (46 ∷ []) (name ++ x) (W.Mark S.Dot) (Next (W.Word name) (ShiftBack s Q)) (short_is 46 S.Dot refl) (dot_ends _)
-      (put name x (W.Word name) (ShiftBack s Q) g.1 (closes_ends (W.Word name) (text_of_shift s ++ rest) (shift_closes s rest c))
-        (shift_back s g.2 rest Q c l)))))))
+    (put name x (W.Word name) (ShiftBack s Q) g.1 (closes_ends (W.Word name) (text_of_shift s ++ rest) (shift_closes s rest c))
+    (shift_back s g.2 rest Q c l)))))))

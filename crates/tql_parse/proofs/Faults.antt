@@ -22,21 +22,36 @@ none_at n m ts p f b =
     let r : query_at (n + m) us ≡ Ok b.tree = query_is (n + m) us b.tree q in
     let stop : query_at n us ≡ Err (Unexpected p) = ap (query_at n) w ∙ f.always b.more in
     let s : ◌≡◌ {A = Result Syntax ParseFault} (Ok b.tree) (Err (Unexpected p)) = sym r
-        ∙ unexpected_rises n (n + m) us p (omega arith) stop in
+    ∙ unexpected_rises n (n + m) us p (omega arith) stop in
     cc
 
 pub first_unexpected : (n : ℕ) (ts : List Token) (p : ℕ) → query_at n ts ≡ Err (Unexpected p) → UnexpectedAt n ts p
 first_unexpected n ts p h =
     let f = first_stop n ts (Unexpected p) h tt in
-    record { before = f.before; at = f.at; behind = f.behind; tokens = f.tokens; place_is = f.place; begins = begins n f.before f.goes_on;
-          stops = λ m. none_at n m ts p f }
+    record {
+      before = f.before;
+      at = f.at;
+      behind = f.behind;
+      tokens = f.tokens;
+      place_is = f.place;
+      begins = begins n f.before f.goes_on;
+      stops = λ m. none_at n m ts p f;
+    }
 
 pub first_deep : (n : ℕ) (ts : List Token) (p : ℕ) → query_at n ts ≡ Err (Deep p) → DeepAt n ts p
 first_deep n ts p h =
     let f = first_stop n ts (Deep p) h tt in
-    record { before = f.before; at = f.at; behind = f.behind; tokens = f.tokens; place_is = f.place; begins = begins n f.before f.goes_on;
-          stops = none_begins n ts (Deep p) f; levels = suc n;
-          begins_deeper = begins (suc n) (f.before ++ f.at ∷ []) (one_level_more n f.before f.at p f.goes_on (f.always [])) }
+    record {
+      before = f.before;
+      at = f.at;
+      behind = f.behind;
+      tokens = f.tokens;
+      place_is = f.place;
+      begins = begins n f.before f.goes_on;
+      stops = none_begins n ts (Deep p) f;
+      levels = suc n;
+      begins_deeper = begins (suc n) (f.before ++ f.at ∷ []) (one_level_more n f.before f.at p f.goes_on (f.always []));
+    }
 
 pub ended_none : (n : ℕ) (ts : List Token) → query_at n ts ≡ Err Ended → (x : Syntax) → AreQueryTokens n ts x → ⊥
 ended_none n ts h x q = let e : ◌≡◌ {A = Result Syntax ParseFault} (Err Ended) (Ok x) = sym h ∙ query_is n ts x q in cc

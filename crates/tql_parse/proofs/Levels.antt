@@ -30,7 +30,7 @@ module _ (u v : List Token → Read Syntax) (rise : (ts : List Token) → Rise S
   rise_chain sep join (suc k) x [] = same (Ok (x, []))
   rise_chain sep join (suc k) x (t ∷ ts) =
       elim (sep (key t.kind)) as (λ b. Rise Syntax (if b then (u ts >>= λ r. chain sep join u k (join x r.0) r.1) else Ok (x, t ∷ ts))
-          (if b then (v ts >>= λ r. chain sep join v k (join x r.0) r.1) else Ok (x, t ∷ ts))) [
+      (if b then (v ts >>= λ r. chain sep join v k (join x r.0) r.1) else Ok (x, t ∷ ts))) [
         | true ↦ rise_bind Syntax Syntax (u ts) (v ts) _ _ (rise ts) (λ r. rise_chain sep join k (join x r.0) r.1)
         | false ↦ same (Ok (x, t ∷ ts))
       ]

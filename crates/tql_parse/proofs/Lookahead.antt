@@ -83,8 +83,10 @@ tame_ok A a = record { spent = refl; out = λ t b r s m. go a b r s m }
 
 pub tame_bind : (A B : Type 0) (g : List Token → Read A) (h : A × List Token → Read B) → Lookahead A g
     → ((a : A) → Lookahead B (λ ts. h (a, ts))) → Lookahead B (λ ts. g ts >>= h)
-tame_bind A B g h tg k = record { spent = spent_bind A B (g []) h tg.spent (λ a. (k a).spent);
-      out = λ t b r s m. out_bind A B t h (g b) (g r) (g s) (tg.out t b r s m) (λ a b' r' s' n. (k a).out t b' r' s' n) (λ a. (k a).spent) }
+tame_bind A B g h tg k = record {
+  spent = spent_bind A B (g []) h tg.spent (λ a. (k a).spent);
+  out = λ t b r s m. out_bind A B t h (g b) (g r) (g s) (tg.out t b r s m) (λ a b' r' s' n. (k a).out t b' r' s' n) (λ a. (k a).spent);
+}
 
 -- what is done at a token: it is taken, refused, or left to another reading
 data Choice (A : Type 0) (f : List Token → Read A) (t : Token) : Type 0 where
@@ -200,7 +202,7 @@ module _ (sep : Key → Bool) (join : Syntax → Syntax → Syntax) (part : List
   tame_chain (suc k) x = tame_choice Syntax (chain sep join part (suc k) x) refl (λ t.
       elim (sep (key t.kind)) as (λ b. sep (key t.kind) ≡ b → Choice Syntax (chain sep join part (suc k) x) t) [
         | true ↦ λ e. taken (λ rest. part rest >>= λ r. chain sep join part k (join x r.0) r.1)
-          (tame_bind Syntax Syntax part _ tame_part (λ a. tame_chain k (join x a))) (λ rest. rw e refl)
+            (tame_bind Syntax Syntax part _ tame_part (λ a. tame_chain k (join x a))) (λ rest. rw e refl)
         | false ↦ λ e. kept (λ ts. Ok (x, ts)) (tame_ok Syntax x) refl (λ rest. rw e refl)
       ] refl)
 
@@ -210,9 +212,9 @@ module _ (sep : Key → Bool) (join : Syntax → Syntax → Syntax) (part : List
     out = λ t b r s m.
         let k = length b + length r + length s in
         three Syntax part t _ _ _ (chain sep join part k x b) (chain sep join part k x r) (chain sep join part k x s)
-          (same sep join part sh (length b) k x b (omega arith) (omega arith))
-          (same sep join part sh (length r) k x r (omega arith) (omega arith))
-          (same sep join part sh (length s) k x s (omega arith) (omega arith)) ((tame_chain k x).out t b r s m);
+        (same sep join part sh (length b) k x b (omega arith) (omega arith))
+        (same sep join part sh (length r) k x r (omega arith) (omega arith))
+        (same sep join part sh (length s) k x s (omega arith) (omega arith)) ((tame_chain k x).out t b r s m);
   }
 
 module _ (n : ℕ) (tame_unit : Lookahead Syntax (unit_at n)) where

@@ -95,7 +95,7 @@ no_shift_here (t ∷ w) c = no_shift (key t.kind) t w (calm_parts (key t.kind) c
 
 whole_shift : Whole (Option Shift) shift_at
 whole_shift = whole_choice (Option Shift) shift_at (λ e. absurd (cc)) (λ mid w x c e. let p = pair_same (Option Shift) None x [] mid e in
-      no_shift_here w c ∙ rw (← p.0, ← p.1) refl) (λ t. shift_choice (key t.kind) t refl)
+    no_shift_here w c ∙ rw (← p.0, ← p.1) refl) (λ t. shift_choice (key t.kind) t refl)
 
 whole_negative : (place : ℕ) → Whole Expr (negative_at place)
 whole_negative place = whole_bind Token Expr (one (λ k. is_number (key k))) _ whole_number (λ n. whole_ok Expr _) (λ n. refl)
@@ -113,7 +113,7 @@ whole_moment = whole_bind Token Expr (one (λ k. is_text (key k))) _ (whole_one 
 whole_field : (var : Token) → Whole Expr (field_at var)
 whole_field var = whole_bind Token Expr (one (λ k. is_dot (key k))) _ (whole_one (λ k. is_dot (key k)) (W.Mark S.Dot) refl refl)
     (λ d. whole_bind Token Expr (one is_word) _ (whole_one is_word (W.Word (codes "a")) refl refl)
-      (λ n. whole_bind (Option Shift) Expr shift_at _ whole_shift (λ s. whole_ok Expr _) (λ s. refl)) (λ n. refl)) (λ d. refl)
+    (λ n. whole_bind (Option Shift) Expr shift_at _ whole_shift (λ s. whole_ok Expr _) (λ s. refl)) (λ n. refl)) (λ d. refl)
 
 expr_choice : (k : Key) (t : Token) → key t.kind ≡ k → Choice Expr expr_at t
 expr_choice K.Number t e = taken (λ rest. Ok (E.Number t.place (number_of_kind t.kind), rest)) (whole_ok Expr _) (λ rest. rw e refl)
@@ -141,8 +141,12 @@ right_choice K.Has left t e = has_choice (is_plain left) left t refl e
 right_choice _ left t e = refused (Unexpected t.place) refl (λ rest. rw e refl)
 
 whole_right : (left : Expr) → Whole Syntax (right_at left)
-whole_right left = whole_choice Syntax (right_at left) (λ e. record { more = token_of (W.Mark (S.Compare Eq)) ∷ digit ∷ [];
-        value = Compare left Eq 0 (E.Number 0 (pos 0)); calm = refl; read = λ tail c. refl }) (λ mid w x c e. absurd (cc)) (λ t.
+whole_right left = whole_choice Syntax (right_at left) (λ e. record {
+  more = token_of (W.Mark (S.Compare Eq)) ∷ digit ∷ [];
+  value = Compare left Eq 0 (E.Number 0 (pos 0));
+  calm = refl;
+  read = λ tail c. refl;
+}) (λ mid w x c e. absurd (cc)) (λ t.
     right_choice (key t.kind) left t refl)
 
 whole_compare : Whole Syntax compare_at
@@ -165,7 +169,7 @@ module _ (sep : Key → Bool) (join : Syntax → Syntax → Syntax) (part : List
       (λ mid w y c e. let p = pair_same Syntax x y [] mid e in no_more (suc k) x w (calm_sep w c) ∙ rw (← p.0, ← p.1) refl) (λ t.
       elim (sep (key t.kind)) as (λ b. sep (key t.kind) ≡ b → Choice Syntax (chain sep join part (suc k) x) t) [
         | true ↦ λ e. taken (λ rest. part rest >>= λ r. chain sep join part k (join x r.0) r.1)
-          (whole_bind Syntax Syntax part _ whole_part (λ y. whole_chain k (join x y)) (λ y. chain_spent k (join x y))) (λ rest. rw e refl)
+            (whole_bind Syntax Syntax part _ whole_part (λ y. whole_chain k (join x y)) (λ y. chain_spent k (join x y))) (λ rest. rw e refl)
         | false ↦ λ e. kept (λ ts. Ok (x, ts)) (whole_ok Syntax x) (λ rest. rw e refl)
       ] refl)
     where
@@ -191,7 +195,7 @@ module _ (sep : Key → Bool) (join : Syntax → Syntax → Syntax) (part : List
   fuel_up (suc k) (suc j) x [] b tail c le e = e
   fuel_up (suc k) (suc j) x (t ∷ us) b tail c le e =
       elim (sep (key t.kind)) as (λ s. (if s then (part us >>= λ r. chain sep join part k (join x r.0) r.1) else Ok (x, t ∷ us))
-          ≡ Ok (b, tail) → (if s then (part us >>= λ r. chain sep join part j (join x r.0) r.1) else Ok (x, t ∷ us)) ≡ Ok (b, tail)) [
+      ≡ Ok (b, tail) → (if s then (part us >>= λ r. chain sep join part j (join x r.0) r.1) else Ok (x, t ∷ us)) ≡ Ok (b, tail)) [
         | true ↦ λ e. up_bind k j x us b tail (part us) (λ y vs q. fuel_up k j y vs b tail c (omega arith) q) e
         | false ↦ λ e. e
       ] e
@@ -202,7 +206,7 @@ module _ (sep : Key → Bool) (join : Syntax → Syntax → Syntax) (part : List
         let k = length ts + length w in
         let l : length (ts ++ w) ≡ length ts + length w = length-append ts w in
         same sep join part sh (length (ts ++ w)) k x (ts ++ w) (omega arith) (omega arith)
-          ∙ (whole_chain k x).steady ts mid w a c (same sep join part sh k (length ts) x ts (omega arith) (omega arith) ∙ e);
+        ∙ (whole_chain k x).steady ts mid w a c (same sep join part sh k (length ts) x ts (omega arith) (omega arith) ∙ e);
     ends = λ ts e.
         let f = (whole_chain (length ts) x).ends ts e in
         record {
@@ -213,7 +217,7 @@ module _ (sep : Key → Bool) (join : Syntax → Syntax → Syntax) (part : List
               let us = ts ++ (f.more ++ tail) in
               let k = length ts + length us in
               same sep join part sh (length us) k x us (omega arith) (omega arith)
-                ∙ fuel_up (length ts) k x us f.value tail (calm_sep tail c) (omega arith) (f.read tail c);
+              ∙ fuel_up (length ts) k x us f.value tail (calm_sep tail c) (omega arith) (f.read tail c);
         };
   }
 
@@ -228,16 +232,16 @@ module _ (n : ℕ) (whole_unit : Whole Syntax (unit_at n)) where
 
   whole_group : Whole Syntax (group_with (unit_at n))
   whole_group = whole_bind Syntax Syntax (cond_with (unit_at n)) _ whole_cond (λ x. whole_bind Token Syntax (one (λ k. is_close (key k))) _
-        (whole_one (λ k. is_close (key k)) (W.Mark S.Close) refl refl) (λ c. whole_ok Syntax x) (λ c. refl)) (λ x. refl)
+      (whole_one (λ k. is_close (key k)) (W.Mark S.Close) refl refl) (λ c. whole_ok Syntax x) (λ c. refl)) (λ x. refl)
 
   whole_head : Whole (Token × Table) head_at
   whole_head = whole_bind Token (Token × Table) (one (λ k. is_open (key k))) _ (whole_one (λ k. is_open (key k)) (W.Mark S.Open) refl refl)
       (λ o. whole_bind Token (Token × Table) (one (λ k. is_name_key (key k))) _
-        (whole_one (λ k. is_name_key (key k)) (W.Word (codes "a")) refl refl) (λ v.
-          whole_bind Token (Token × Table) (one (λ k. is_colon (key k))) _ (whole_one (λ k. is_colon (key k)) (W.Mark S.Colon) refl refl)
-          (λ c. whole_bind Table (Token × Table) table_at _ whole_table (λ w. whole_bind Token (Token × Table) (one (λ k. is_where (key k)))
-              _ (whole_one (λ k. is_where (key k)) (W.Word (codes "where")) refl refl) (λ z. whole_ok (Token × Table) _) (λ z. refl))
-            (λ w. refl)) (λ c. refl)) (λ v. refl)) (λ o. refl)
+      (whole_one (λ k. is_name_key (key k)) (W.Word (codes "a")) refl refl) (λ v.
+      whole_bind Token (Token × Table) (one (λ k. is_colon (key k))) _ (whole_one (λ k. is_colon (key k)) (W.Mark S.Colon) refl refl)
+      (λ c. whole_bind Table (Token × Table) table_at _ whole_table (λ w. whole_bind Token (Token × Table) (one (λ k. is_where (key k)))
+      _ (whole_one (λ k. is_where (key k)) (W.Word (codes "where")) refl refl) (λ z. whole_ok (Token × Table) _) (λ z. refl))
+      (λ w. refl)) (λ c. refl)) (λ v. refl)) (λ o. refl)
 
   whole_exists : Whole Syntax (exists_with (unit_at n))
   whole_exists = whole_bind (Token × Table) Syntax head_at _ whole_head
@@ -267,8 +271,12 @@ zero_choice O.End t e = kept compare_at whole_compare (λ rest. at_zero t rest O
 zero_choice O.Comparison t e = kept compare_at whole_compare (λ rest. at_zero t rest O.Comparison e)
 
 unit_starts : (n : ℕ) → Finish Syntax (unit_at n) []
-unit_starts n = record { more = token_of (W.Word (codes "true")) ∷ []; value = True; calm = refl;
-      read = λ tail c. unit_true n (token_of (W.Word (codes "true")) ∷ tail) refl }
+unit_starts n = record {
+  more = token_of (W.Word (codes "true")) ∷ [];
+  value = True;
+  calm = refl;
+  read = λ tail c. unit_true n (token_of (W.Word (codes "true")) ∷ tail) refl;
+}
 
 unit_empty : (n : ℕ) (mid w : List Token) (x : Syntax) → Calm w → unit_at n [] ≡ Ok (x, mid) → unit_at n w ≡ Ok (x, mid ++ w)
 unit_empty n mid w x c e = let k : ◌≡◌ {A = Read Syntax} (Err Ended) (Ok (x, mid)) = sym (unit_end n [] refl) ∙ e in absurd (cc)
@@ -288,13 +296,21 @@ pub ended_begins : (n : ℕ) (ts : List Token) → query_at n ts ≡ Err Ended �
 ended_begins n ts e =
     let f = (whole_cond n (whole_unit_at n)).ends ts (ended_cond (cond_at n ts) e) in
     let r : cond_at n (ts ++ f.more) ≡ Ok (f.value, []) =
-        subst (λ (us : List Token). cond_at n (ts ++ us) ≡ Ok (f.value, [])) (append-nil f.more) (f.read [] refl) in
-    record { more = f.more; tree = f.value; is_query = query_ok n (ts ++ f.more) (cond_at n (ts ++ f.more))
-        f.value (on_cond n (unit_at n) (on_unit_at n) (ts ++ f.more)) (ap (λ (r : Read Syntax). r >>= end_of) r) }
+    subst (λ (us : List Token). cond_at n (ts ++ us) ≡ Ok (f.value, [])) (append-nil f.more) (f.read [] refl) in
+    record {
+      more = f.more;
+      tree = f.value;
+      is_query = query_ok n (ts ++ f.more) (cond_at n (ts ++ f.more))
+          f.value (on_cond n (unit_at n) (on_unit_at n) (ts ++ f.more)) (ap (λ (r : Read Syntax). r >>= end_of) r);
+    }
 
 begins_by : (n : ℕ) (ts : List Token) (r : Result Syntax ParseFault) → query_at n ts ≡ r → fails_at r ≡ false → Begins n ts
-begins_by n ts (Ok x) e v = record { more = []; tree = x; is_query = subst (λ (us : List Token). AreQueryTokens n us x)
-      (sym (append-nil ts)) (query_ok n ts (cond_at n ts) x (on_cond n (unit_at n) (on_unit_at n) ts) e) }
+begins_by n ts (Ok x) e v = record {
+  more = [];
+  tree = x;
+  is_query = subst (λ (us : List Token). AreQueryTokens n us x)
+      (sym (append-nil ts)) (query_ok n ts (cond_at n ts) x (on_cond n (unit_at n) (on_unit_at n) ts) e);
+}
 begins_by n ts (Err Ended) e v = ended_begins n ts e
 begins_by n ts (Err (Unexpected p)) e v = absurd (true≢false v)
 begins_by n ts (Err (Deep p)) e v = absurd (true≢false v)

@@ -44,7 +44,7 @@ on_table (t ∷ rest) = on_table_by (key t.kind) t rest refl
 on_forward : (sign : Token) (ts : List Token) → key sign.kind ≡ K.Mark S.Plus → On (MayShift (sign ∷ ts)) (shift_after sign.place false ts)
 on_forward sign ts e =
     on_bind (Next (λ k. is_number (key k)) ts) (MayShift (sign ∷ ts)) (one (λ k. is_number (key k)) ts) _
-      (on_one (λ k. is_number (key k)) ts) (λ count c.
+    (on_one (λ k. is_number (key k)) ts) (λ count c.
     on_bind (IsUnit count.1) (MayShift (sign ∷ ts)) (unit_name count.1) _ (on_unit count.1) (λ unit u.
     let whole : ts ≡ count.0 ∷ u.0 ∷ unit.1 = c.0 ∙ ap (λ (us : List Token). count.0 ∷ us) u.1 in
     rw whole (some _ _ _ (forward sign count.0 u.0 unit.0 unit.1 e c.1 u.2))))
@@ -52,7 +52,7 @@ on_forward sign ts e =
 on_back : (sign : Token) (ts : List Token) → key sign.kind ≡ K.Mark S.Minus → On (MayShift (sign ∷ ts)) (shift_after sign.place true ts)
 on_back sign ts e =
     on_bind (Next (λ k. is_number (key k)) ts) (MayShift (sign ∷ ts)) (one (λ k. is_number (key k)) ts) _
-      (on_one (λ k. is_number (key k)) ts) (λ count c.
+    (on_one (λ k. is_number (key k)) ts) (λ count c.
     on_bind (IsUnit count.1) (MayShift (sign ∷ ts)) (unit_name count.1) _ (on_unit count.1) (λ unit u.
     let whole : ts ≡ count.0 ∷ u.0 ∷ unit.1 = c.0 ∙ ap (λ (us : List Token). count.0 ∷ us) u.1 in
     rw whole (some _ _ _ (back sign count.0 u.0 unit.0 unit.1 e c.1 u.2))))
@@ -69,7 +69,7 @@ on_shift (t ∷ rest) = on_shift_by (key t.kind) t rest refl
 on_negative : (t : Token) (ts : List Token) → key t.kind ≡ K.Mark S.Minus → On (IsExpr (t ∷ ts)) (negative_at t.place ts)
 on_negative t ts e =
     on_bind (Next (λ k. is_number (key k)) ts) (IsExpr (t ∷ ts)) (one (λ k. is_number (key k)) ts) _ (on_one (λ k. is_number (key k)) ts)
-      (λ n c.
+    (λ n c.
     rw c.0 (negative t n.0 n.1 e c.1))
 
 on_moment : (t : Token) (ts : List Token) → key t.kind ≡ K.Time → On (IsExpr (t ∷ ts)) (moment_at ts)
@@ -138,7 +138,7 @@ pub on_head : (ts : List Token) → On (IsHead ts) (head_at ts)
 on_head ts =
     on_bind (Next (λ k. is_open (key k)) ts) (IsHead ts) (one (λ k. is_open (key k)) ts) _ (on_one (λ k. is_open (key k)) ts) (λ o a.
     on_bind (Next (λ k. is_name_key (key k)) o.1) (IsHead ts) (one (λ k. is_name_key (key k)) o.1) _ (on_one (λ k. is_name_key (key k)) o.1)
-      (λ v b.
+    (λ v b.
     on_bind (Next (λ k. is_colon (key k)) v.1) (IsHead ts) (one (λ k. is_colon (key k)) v.1) _ (on_one (λ k. is_colon (key k)) v.1) (λ p c.
     on_bind (λ which after. (u : Token) × (p.1 ≡ u ∷ after) × IsTable u which) (IsHead ts) (table_at p.1) _ (on_table p.1) (λ w d.
     on_bind (Next (λ k. is_where (key k)) w.1) (IsHead ts) (one (λ k. is_where (key k)) w.1) _ (on_one (λ k. is_where (key k)) w.1) (λ x e.
@@ -148,7 +148,7 @@ on_head ts =
       table = d.0;
       where_is = x.0;
       whole = a.0 ∙ ap (λ (us : List Token). o.0 ∷ us) (b.0
-            ∙ ap (λ (us : List Token). v.0 ∷ us) (c.0 ∙ ap (λ (us : List Token). p.0 ∷ us) (d.1 ∙ ap (λ (us : List Token). d.0 ∷ us) e.0)));
+          ∙ ap (λ (us : List Token). v.0 ∷ us) (c.0 ∙ ap (λ (us : List Token). p.0 ∷ us) (d.1 ∙ ap (λ (us : List Token). d.0 ∷ us) e.0)));
       opens = a.1;
       names = b.1;
       parts = c.1;
@@ -163,9 +163,9 @@ module _ (n : ℕ) (unit : List Token → Read Syntax) (sound : (ts : List Token
   on_ands (suc k) ts x [] h = h
   on_ands (suc k) ts x (t ∷ mid) h =
       elim (is_and (key t.kind)) as (λ b. is_and (key t.kind) ≡ b
-          → On (Reads Conj n ts) (if b then (unit mid >>= λ r. chain is_and And unit k (And x r.0) r.1) else Ok (x, t ∷ mid))) [
+      → On (Reads Conj n ts) (if b then (unit mid >>= λ r. chain is_and And unit k (And x r.0) r.1) else Ok (x, t ∷ mid))) [
         | true ↦ λ e. on_bind (Reads One n mid) (Reads Conj n ts) (unit mid) _ (sound mid) (λ r q.
-          on_ands k ts (And x r.0) r.1 (and_unit n ts x t mid r.0 r.1 h e q))
+            on_ands k ts (And x r.0) r.1 (and_unit n ts x t mid r.0 r.1 h e q))
         | false ↦ λ e. h
       ] refl
 
@@ -179,9 +179,9 @@ module _ (n : ℕ) (unit : List Token → Read Syntax) (sound : (ts : List Token
   on_ors (suc k) ts x [] h = h
   on_ors (suc k) ts x (t ∷ mid) h =
       elim (is_or (key t.kind)) as (λ b. is_or (key t.kind) ≡ b → On (Reads Cond n ts)
-          (if b then (conj_with unit mid >>= λ r. chain is_or Or (conj_with unit) k (Or x r.0) r.1) else Ok (x, t ∷ mid))) [
+      (if b then (conj_with unit mid >>= λ r. chain is_or Or (conj_with unit) k (Or x r.0) r.1) else Ok (x, t ∷ mid))) [
         | true ↦ λ e. on_bind (Reads Conj n mid) (Reads Cond n ts) (conj_with unit mid) _ (on_conj mid) (λ r q.
-          on_ors k ts (Or x r.0) r.1 (or_conj n ts x t mid r.0 r.1 h e q))
+            on_ors k ts (Or x r.0) r.1 (or_conj n ts x t mid r.0 r.1 h e q))
         | false ↦ λ e. h
       ] refl
 
@@ -198,17 +198,17 @@ module _ (n : ℕ) (unit : List Token → Read Syntax) (sound : (ts : List Token
   on_group ts =
       on_bind (Reads Cond n ts) _ (cond_with unit ts) _ (on_cond ts) (λ x q.
       on_bind (Next (λ k. is_close (key k)) x.1)
-          (λ y rest. (close : Token) × Reads Cond n ts y (close ∷ rest) × (is_close (key close.kind) ≡ true))
-          (one (λ k. is_close (key k)) x.1) (λ close. Ok (x.0, close.1)) (on_one (λ k. is_close (key k)) x.1) (λ c e.
+      (λ y rest. (close : Token) × Reads Cond n ts y (close ∷ rest) × (is_close (key close.kind) ≡ true))
+      (one (λ k. is_close (key k)) x.1) (λ close. Ok (x.0, close.1)) (on_one (λ k. is_close (key k)) x.1) (λ c e.
       (c.0, subst (λ (us : List Token). Reads Cond n ts x.0 us) e.0 q, e.1)))
 
   on_exists : (t : Token) (rest : List Token) → key t.kind ≡ K.Exists → On (Reads One (suc n) (t ∷ rest)) (exists_with unit rest)
   on_exists t rest e =
       on_bind (IsHead rest) (Reads One (suc n) (t ∷ rest)) (head_at rest) _ (on_head rest) (λ h q.
       on_bind (λ x after. (close : Token) × Reads Cond n h.1 x (close ∷ after) × (is_close (key close.kind) ≡ true))
-          (Reads One (suc n) (t ∷ rest)) (group_with unit h.1) _ (on_group h.1) (λ x c.
+      (Reads One (suc n) (t ∷ rest)) (group_with unit h.1) _ (on_group h.1) (λ x c.
       rw q.whole (exists_is n t q.opening h.0.0 q.colon q.table q.where_is h.0.1 h.1 x.0 c.0 x.1 e
-          q.opens q.names q.parts q.is_table q.ends c.1 c.2)))
+      q.opens q.names q.parts q.is_table q.ends c.1 c.2)))
 
   on_deeper : (k : Key) (t : Token) (rest : List Token) → key t.kind ≡ k → On (Reads One (suc n) (t ∷ rest)) (deeper unit k t rest)
   on_deeper K.Not t rest e =

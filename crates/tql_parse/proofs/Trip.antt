@@ -147,8 +147,14 @@ module _ (n : ℕ) (x : Syntax) (Q : List Token → Type 0) where
   grouped : (t : Token) (us : List Token) (y : Syntax) (r : List Token) → t.kind ≡ W.Mark S.Open → Reads Cond n us y r → plain y ≡ plain x
       → Next (W.Mark S.Close) Q r → TreeBack One (suc n) x Q (t ∷ us)
   grouped t us y r e h s (next close vs f q) =
-      record { value = y; rest = vs; reads = group n t us y close vs (is_key t (W.Mark S.Open) (K.Mark S.Open) e refl) h
-        (ap is_close (is_key close (W.Mark S.Close) (K.Mark S.Close) f refl)); same = s; after = q }
+      record {
+        value = y;
+        rest = vs;
+        reads = group n t us y close vs (is_key t (W.Mark S.Open) (K.Mark S.Open) e refl) h
+            (ap is_close (is_key close (W.Mark S.Close) (K.Mark S.Close) f refl));
+        same = s;
+        after = q;
+      }
 
   made_group : (ts : List Token) → Next (W.Mark S.Open) (TreeBack Cond n x (Next (W.Mark S.Close) Q)) ts → TreeBack One (suc n) x Q ts
   made_group ts (next t us e b) = grouped t us b.value b.rest e b.reads b.same b.after
@@ -168,9 +174,9 @@ lifted One One n x text le h = h
 in_parentheses : (n : ℕ) (x : Syntax) (text : List ℕ) → Reader Cond n x text → Reader One (suc n) x (parenthesized true text)
 in_parentheses n x text h = λ rest Q c l.
     nest (40 ∷ text) (41 ∷ []) rest _
-      (turn _ _ _ (made_group n x Q) (put (40 ∷ []) (text ++ (41 ∷ rest)) (W.Mark S.Open) (TreeBack Cond n x (Next (W.Mark S.Close) Q))
-          (short_is 40 S.Open refl) (open_ends (text ++ (41 ∷ rest))) (h (41 ∷ rest) (Next (W.Mark S.Close) Q) refl
-            (put (41 ∷ []) rest (W.Mark S.Close) Q (short_is 41 S.Close refl) (closes_ends (W.Mark S.Close) rest c) l))))
+    (turn _ _ _ (made_group n x Q) (put (40 ∷ []) (text ++ (41 ∷ rest)) (W.Mark S.Open) (TreeBack Cond n x (Next (W.Mark S.Close) Q))
+    (short_is 40 S.Open refl) (open_ends (text ++ (41 ∷ rest))) (h (41 ∷ rest) (Next (W.Mark S.Close) Q) refl
+    (put (41 ∷ []) rest (W.Mark S.Close) Q (short_is 41 S.Close refl) (closes_ends (W.Mark S.Close) rest c) l))))
 
 strength_is : (x : Syntax) → strength x ≡ rank (part_of x)
 strength_is True = refl
@@ -207,17 +213,34 @@ module _ (n : ℕ) (Q : List Token → Type 0) where
       record { value = True; rest = us; reads = true_is n t us (is_key t (W.Word (codes "true")) K.True e refl); same = refl; after = q }
 
   made_false : (ts : List Token) → Next (W.Word (codes "false")) Q ts → TreeBack One n False Q ts
-  made_false ts (next t us e q) = record { value = False; rest = us;
-        reads = false_is n t us (is_key t (W.Word (codes "false")) K.False e refl); same = refl; after = q }
+  made_false ts (next t us e q) = record {
+    value = False;
+    rest = us;
+    reads = false_is n t us (is_key t (W.Word (codes "false")) K.False e refl);
+    same = refl;
+    after = q;
+  }
 
   made_not : (x : Syntax) (ts : List Token) → Next (W.Word (codes "not")) (TreeBack One n x Q) ts → TreeBack One (suc n) (Not x) Q ts
-  made_not x ts (next t us e b) = record { value = Not b.value; rest = b.rest; reads =
-        not_unit n t us b.value b.rest (is_key t (W.Word (codes "not")) K.Not e refl) b.reads; same = ap Not b.same; after = b.after }
+  made_not x ts (next t us e b) = record {
+    value = Not b.value;
+    rest = b.rest;
+    reads =
+        not_unit n t us b.value b.rest (is_key t (W.Word (codes "not")) K.Not e refl) b.reads;
+    same = ap Not b.same;
+    after = b.after;
+  }
 
   or_by : (l r : Syntax) (ts : List Token) (y : Syntax) (us : List Token) → Reads Cond n ts y us → plain y ≡ plain l
       → Next (W.Word (codes "or")) (TreeBack Conj n r Q) us → TreeBack Cond n (Or l r) Q ts
-  or_by l r ts y us h s (next o vs e b) = record { value = Or y b.value; rest = b.rest; reads = or_conj n ts y o vs b.value b.rest h
-        (ap is_or (is_key o (W.Word (codes "or")) K.Or e refl)) b.reads; same = rw (s, b.same) refl; after = b.after }
+  or_by l r ts y us h s (next o vs e b) = record {
+    value = Or y b.value;
+    rest = b.rest;
+    reads = or_conj n ts y o vs b.value b.rest h
+        (ap is_or (is_key o (W.Word (codes "or")) K.Or e refl)) b.reads;
+    same = rw (s, b.same) refl;
+    after = b.after;
+  }
 
   made_or : (l r : Syntax) (ts : List Token) → TreeBack Cond n l (Next (W.Word (codes "or")) (TreeBack Conj n r Q)) ts
       → TreeBack Cond n (Or l r) Q ts
@@ -225,8 +248,14 @@ module _ (n : ℕ) (Q : List Token → Type 0) where
 
   and_by : (l r : Syntax) (ts : List Token) (y : Syntax) (us : List Token) → Reads Conj n ts y us → plain y ≡ plain l
       → Next (W.Word (codes "and")) (TreeBack One n r Q) us → TreeBack Conj n (And l r) Q ts
-  and_by l r ts y us h s (next o vs e b) = record { value = And y b.value; rest = b.rest; reads = and_unit n ts y o vs b.value b.rest h
-        (ap is_and (is_key o (W.Word (codes "and")) K.And e refl)) b.reads; same = rw (s, b.same) refl; after = b.after }
+  and_by l r ts y us h s (next o vs e b) = record {
+    value = And y b.value;
+    rest = b.rest;
+    reads = and_unit n ts y o vs b.value b.rest h
+        (ap is_and (is_key o (W.Word (codes "and")) K.And e refl)) b.reads;
+    same = rw (s, b.same) refl;
+    after = b.after;
+  }
 
   made_and : (l r : Syntax) (ts : List Token) → TreeBack Conj n l (Next (W.Word (codes "and")) (TreeBack One n r Q)) ts
       → TreeBack Conj n (And l r) Q ts
@@ -235,9 +264,14 @@ module _ (n : ℕ) (Q : List Token → Type 0) where
   compare_by : (l r : Expr) (op : Op) (p : ℕ) (ts : List Token) (e : Expr) (us : List Token) → IsExpr ts e us → plain_expr e ≡ plain_expr l
       → Next (W.Mark (S.Compare op)) (ExprBack r Q) us → TreeBack One n (Compare l op p r) Q ts
   compare_by l r op p ts e us h s (next o vs f b) =
-      record { value = Compare e op o.place b.value; rest = b.rest; reads = compare_is n ts (Compare e op o.place b.value)
-        b.rest (compare ts e o op vs b.value b.rest h (is_key o (W.Mark (S.Compare op)) (K.Mark (S.Compare op)) f refl) b.reads);
-        same = rw (s, b.same.0) refl; after = b.after }
+      record {
+        value = Compare e op o.place b.value;
+        rest = b.rest;
+        reads = compare_is n ts (Compare e op o.place b.value)
+            b.rest (compare ts e o op vs b.value b.rest h (is_key o (W.Mark (S.Compare op)) (K.Mark (S.Compare op)) f refl) b.reads);
+        same = rw (s, b.same.0) refl;
+        after = b.after;
+      }
 
   made_compare : (l r : Expr) (op : Op) (p : ℕ) (ts : List Token) → ExprBack l (Next (W.Mark (S.Compare op)) (ExprBack r Q)) ts
       → TreeBack One n (Compare l op p r) Q ts
@@ -245,9 +279,14 @@ module _ (n : ℕ) (Q : List Token → Type 0) where
 
   has_by : (l r : Expr) (p : ℕ) (ts : List Token) (e : Expr) (us : List Token) → IsExpr ts e us → plain_expr e ≡ plain_expr l
       → is_plain e ≡ true → Next (W.Word (codes "has")) (ExprBack r Q) us → TreeBack One n (Has l p r) Q ts
-  has_by l r p ts e us h s i (next o vs f b) = record { value = Has e o.place b.value; rest = b.rest; reads = compare_is n ts
+  has_by l r p ts e us h s i (next o vs f b) = record {
+    value = Has e o.place b.value;
+    rest = b.rest;
+    reads = compare_is n ts
         (Has e o.place b.value) b.rest (has ts e o vs b.value b.rest h i (is_key o (W.Word (codes "has")) K.Has f refl) b.reads);
-        same = rw (s, b.same.0) refl; after = b.after }
+    same = rw (s, b.same.0) refl;
+    after = b.after;
+  }
 
   made_has : (l r : Expr) (p : ℕ) → is_plain l ≡ true → (ts : List Token) → ExprBack l (Next (W.Word (codes "has")) (ExprBack r Q)) ts
       → TreeBack One n (Has l p r) Q ts
@@ -276,7 +315,7 @@ table_of u Notes e = notes u (is_key u (W.Word (codes "note")) K.Note e refl)
 -- from EXISTS to its `)`
 abbrev ExistsNext : ℕ → List ℕ → Table → Syntax → (List Token → Type 0) → List Token → Type 0
 ExistsNext n var t x Q = Next (W.Word (codes "exists")) (Next (W.Mark S.Open) (Next (W.Word var) (Next (W.Mark S.Colon)
-          (Next (W.Word (word_of_table t)) (Next (W.Word (codes "where")) (TreeBack Cond n x (Next (W.Mark S.Close) Q)))))))
+    (Next (W.Word (word_of_table t)) (Next (W.Word (codes "where")) (TreeBack Cond n x (Next (W.Mark S.Close) Q)))))))
 
 module _ (n : ℕ) (var : List ℕ) (p : ℕ) (table : Table) (x : Syntax) (Q : List Token → Type 0) (k : word_key var ≡ K.Name) where
   exists_by : (t o v c u w : Token) (ts : List Token) (y : Syntax) (r : List Token) → t.kind ≡ W.Word (codes "exists")
@@ -308,20 +347,20 @@ exists_reader n var p table x g h rest Q c l =
     let tail = b ++ (41 ∷ rest) in
     let head = codes "EXISTS (" in
     let body : Lexes tail (TreeBack Cond n x (Next (W.Mark S.Close) Q)) = h (41 ∷ rest) (Next (W.Mark S.Close) Q) refl
-        (put (41 ∷ []) rest (W.Mark S.Close) Q (short_is 41 S.Close refl) (closes_ends (W.Mark S.Close) rest c) l) in
+    (put (41 ∷ []) rest (W.Mark S.Close) Q (short_is 41 S.Close refl) (closes_ends (W.Mark S.Close) rest c) l) in
     let after_table = skip 32 _ _ refl (put (codes "WHERE") (32 ∷ tail) (W.Word (codes "where")) _ (word_is 87 (codes "HERE") refl refl)
-          refl (skip 32 tail _ refl body)) in
+    refl (skip 32 tail _ refl body)) in
     let from_table = put t (where_is ++ tail) (W.Word (word_of_table table)) _ (table_spelled table) refl after_table in
     let from_colon =
-        put (58 ∷ []) (32 ∷ (t ++ (where_is ++ tail))) (W.Mark S.Colon) _ (short_is 58 S.Colon refl) refl (skip 32 _ _ refl from_table) in
+    put (58 ∷ []) (32 ∷ (t ++ (where_is ++ tail))) (W.Mark S.Colon) _ (short_is 58 S.Colon refl) refl (skip 32 _ _ refl from_table) in
     let from_var = put var (58 ∷ 32 ∷ (t ++ (where_is ++ tail))) (W.Word var) _ g.0 refl from_colon in
     let from_open = put (40 ∷ []) (var ++ (58 ∷ 32 ∷ (t ++ (where_is ++ tail)))) (W.Mark S.Open) _ (short_is 40 S.Open refl)
-        (open_ends (var ++ (58 ∷ 32 ∷ (t ++ (where_is ++ tail))))) from_var in
+    (open_ends (var ++ (58 ∷ 32 ∷ (t ++ (where_is ++ tail))))) from_var in
     let whole = put (codes "EXISTS") (32 ∷ 40 ∷ (var ++ (58 ∷ 32 ∷ (t ++ (where_is ++ tail))))) (W.Word (codes "exists")) _
-        (word_is 69 (codes "XISTS") refl refl) refl (skip 32 _ _ refl from_open) in
+    (word_is 69 (codes "XISTS") refl refl) refl (skip 32 _ _ refl from_open) in
     nest (((((head ++ var) ++ (58 ∷ 32 ∷ [])) ++ t) ++ where_is) ++ b) (41 ∷ []) rest _ (nest
-        ((((head ++ var) ++ (58 ∷ 32 ∷ [])) ++ t) ++ where_is) b (41 ∷ rest) _ (nest (((head ++ var) ++ (58 ∷ 32 ∷ [])) ++ t) where_is tail
-          _ (nest ((head ++ var) ++ (58 ∷ 32 ∷ [])) t (where_is ++ tail) _ (nest (head ++ var) (58 ∷ 32 ∷ []) (t ++ (where_is ++ tail)) _
+    ((((head ++ var) ++ (58 ∷ 32 ∷ [])) ++ t) ++ where_is) b (41 ∷ rest) _ (nest (((head ++ var) ++ (58 ∷ 32 ∷ [])) ++ t) where_is tail
+    _ (nest ((head ++ var) ++ (58 ∷ 32 ∷ [])) t (where_is ++ tail) _ (nest (head ++ var) (58 ∷ 32 ∷ []) (t ++ (where_is ++ tail)) _
     (turn _ _ _ (made_exists n var p table x Q (name_key (word_key var) g.1)) whole)))))
 
 or_reader : (n : ℕ) (l r : Syntax) → Reader Cond n l (canonical l) → Reader Conj n r (parenthesized (weaker r 1) (canonical r))
@@ -330,9 +369,9 @@ or_reader n l r h k rest Q c a =
     let s = parenthesized (weaker r 1) (canonical r) in
     let right = k rest Q c a in
     let from_or = skip 32 _ _ refl (put (codes "OR") (32 ∷ (s ++ rest)) (W.Word (codes "or")) (TreeBack Conj n r Q)
-          (word_is 79 (codes "R") refl refl) refl (skip 32 _ _ refl right)) in
+    (word_is 79 (codes "R") refl refl) refl (skip 32 _ _ refl right)) in
     nest (canonical l ++ codes " OR ") s rest _ (nest (canonical l) (codes " OR ") (s ++ rest) _
-        (turn _ _ _ (made_or n Q l r) (h (codes " OR " ++ (s ++ rest)) (Next (W.Word (codes "or")) (TreeBack Conj n r Q)) refl from_or)))
+    (turn _ _ _ (made_or n Q l r) (h (codes " OR " ++ (s ++ rest)) (Next (W.Word (codes "or")) (TreeBack Conj n r Q)) refl from_or)))
 
 and_reader : (n : ℕ) (l r : Syntax) → Reader Conj n l (parenthesized (weaker l 1) (canonical l))
     → Reader One n r (parenthesized (weaker r 2) (canonical r)) → Reader Conj n (And l r) (canonical (And l r))
@@ -341,9 +380,9 @@ and_reader n l r h k rest Q c a =
     let s = parenthesized (weaker r 2) (canonical r) in
     let right = k rest Q c a in
     let from_and = skip 32 _ _ refl (put (codes "AND") (32 ∷ (s ++ rest)) (W.Word (codes "and")) (TreeBack One n r Q)
-          (word_is 65 (codes "ND") refl refl) refl (skip 32 _ _ refl right)) in
+    (word_is 65 (codes "ND") refl refl) refl (skip 32 _ _ refl right)) in
     nest (f ++ codes " AND ") s rest _ (nest f (codes " AND ") (s ++ rest) _
-        (turn _ _ _ (made_and n Q l r) (h (codes " AND " ++ (s ++ rest)) (Next (W.Word (codes "and")) (TreeBack One n r Q)) refl from_and)))
+    (turn _ _ _ (made_and n Q l r) (h (codes " AND " ++ (s ++ rest)) (Next (W.Word (codes "and")) (TreeBack One n r Q)) refl from_and)))
 
 compare_reader : (n : ℕ) (l r : Expr) (op : Op) (p : ℕ) → GoodExpr l → GoodExpr r
     → Reader One n (Compare l op p r) (canonical (Compare l op p r))
@@ -353,11 +392,11 @@ compare_reader n l r op p g h rest Q c a =
     let s = text_of_expr r in
     let right = expr_back r h rest Q c a in
     let from_op = put o (32 ∷ (s ++ rest)) (W.Mark (S.Compare op)) (ExprBack r Q) (op_spelled op)
-        (closes_ends (W.Mark (S.Compare op)) (32 ∷ (s ++ rest)) refl) (skip 32 _ _ refl right) in
+    (closes_ends (W.Mark (S.Compare op)) (32 ∷ (s ++ rest)) refl) (skip 32 _ _ refl right) in
     nest (((f ++ (32 ∷ [])) ++ o) ++ (32 ∷ [])) s rest _ (nest ((f ++ (32 ∷ [])) ++ o) (32 ∷ []) (s ++ rest) _
-        (nest (f ++ (32 ∷ [])) o (32 ∷ (s ++ rest)) _ (nest f (32 ∷ []) (o ++ (32 ∷ (s ++ rest))) _
+    (nest (f ++ (32 ∷ [])) o (32 ∷ (s ++ rest)) _ (nest f (32 ∷ []) (o ++ (32 ∷ (s ++ rest))) _
     (turn _ _ _ (made_compare n Q l r op p)
-      (expr_back l g (32 ∷ (o ++ (32 ∷ (s ++ rest)))) (Next (W.Mark (S.Compare op)) (ExprBack r Q)) refl (skip 32 _ _ refl from_op))))))
+    (expr_back l g (32 ∷ (o ++ (32 ∷ (s ++ rest)))) (Next (W.Mark (S.Compare op)) (ExprBack r Q)) refl (skip 32 _ _ refl from_op))))))
 
 has_reader : (n : ℕ) (l r : Expr) (p : ℕ) → GoodExpr l → is_plain l ≡ true → GoodExpr r → Reader One n (Has l p r) (canonical (Has l p r))
 has_reader n l r p g i h rest Q c a =
@@ -365,14 +404,14 @@ has_reader n l r p g i h rest Q c a =
     let s = text_of_expr r in
     let right = expr_back r h rest Q c a in
     let from_has = skip 32 _ _ refl (put (codes "HAS") (32 ∷ (s ++ rest)) (W.Word (codes "has")) (ExprBack r Q)
-          (word_is 72 (codes "AS") refl refl) refl (skip 32 _ _ refl right)) in
+    (word_is 72 (codes "AS") refl refl) refl (skip 32 _ _ refl right)) in
     nest (f ++ codes " HAS ") s rest _ (nest f (codes " HAS ") (s ++ rest) _ (turn _ _ _ (made_has n Q l r p i)
-          (expr_back l g (codes " HAS " ++ (s ++ rest)) (Next (W.Word (codes "has")) (ExprBack r Q)) refl from_has)))
+    (expr_back l g (codes " HAS " ++ (s ++ rest)) (Next (W.Word (codes "has")) (ExprBack r Q)) refl from_has)))
 
 not_reader : (n : ℕ) (x : Syntax) → Reader One n x (parenthesized (weaker x 2) (canonical x))
     → Reader One (suc n) (Not x) (canonical (Not x))
 not_reader n x h rest Q c l = turn _ _ _ (made_not n Q x) (put (codes "NOT") (32 ∷ (parenthesized (weaker x 2) (canonical x) ++ rest))
-      (W.Word (codes "not")) (TreeBack One n x Q) (word_is 78 (codes "OT") refl refl) refl (skip 32 _ _ refl (h rest Q c l)))
+    (W.Word (codes "not")) (TreeBack One n x Q) (word_is 78 (codes "OT") refl refl) refl (skip 32 _ _ refl (h rest Q c l)))
 
 true_reader : (n : ℕ) → Reader One n True (canonical True)
 true_reader n rest Q c l = turn _ _ _ (made_true n Q)
@@ -380,13 +419,13 @@ true_reader n rest Q c l = turn _ _ _ (made_true n Q)
 
 false_reader : (n : ℕ) → Reader One n False (canonical False)
 false_reader n rest Q c l = turn _ _ _ (made_false n Q) (put (codes "FALSE") rest (W.Word (codes "false")) Q
-      (word_is 70 (codes "ALSE") refl refl) (closes_ends (W.Word (codes "false")) rest c) l)
+    (word_is 70 (codes "ALSE") refl refl) (closes_ends (W.Word (codes "false")) rest c) l)
 
 reader : (x : Syntax) → TokenBounds x → (n : ℕ) → levels x ≤ n → Reader (part_of x) n x (canonical x)
 reader True g n le = true_reader n
 reader False g n le = false_reader n
 reader (Or l r) g n le = or_reader n l r (lifted (part_of l) Cond n l (canonical l) (cond_least (part_of l))
-      (reader l g.0 n (left_fits (levels l) (wrapped (weaker r 1) (levels r)) n le)))
+    (reader l g.0 n (left_fits (levels l) (wrapped (weaker r 1) (levels r)) n le)))
     (wrap_reader r Conj n (λ m h. reader r g.1 m h) (right_fits (levels l) (wrapped (weaker r 1) (levels r)) n le))
 reader (And l r) g n le = and_reader n l r
     (wrap_reader l Conj n (λ m h. reader l g.0 m h) (left_fits (wrapped (weaker l 1) (levels l)) (wrapped (weaker r 2) (levels r)) n le))
@@ -412,9 +451,15 @@ reads_back text tokens query e h short =
     let good = (reads_good Cond 32 tokens query [] h (are_of_text 0 text tokens (lexed_are text tokens e))).0 in
     let few = none_weaker query (levels query) 32 (read_levels Cond 32 tokens query [] h) in
     let whole = lifted (part_of query) Cond 32 query (canonical query) (cond_least (part_of query)) (reader query good 32 few) [] Over refl
-        over 0 in
+    over 0 in
     let F : List ℕ → Type 0 = λ text. AreTokens 0 text whole.0 in
     let b = whole.2 in
     let G : List Token → Type 0 = λ rest. Reads Cond 32 whole.0 b.value rest in
-    record { tokens = whole.0; tree = b.value; lexes = are_lexed (canonical query) whole.0 short
-        (subst F (append-nil (canonical query)) whole.1); is_query = subst G b.after b.reads; same = b.same }
+    record {
+      tokens = whole.0;
+      tree = b.value;
+      lexes = are_lexed (canonical query) whole.0 short
+          (subst F (append-nil (canonical query)) whole.1);
+      is_query = subst G b.after b.reads;
+      same = b.same;
+    }

@@ -116,7 +116,7 @@ module _ (A : Type 0) (f : List Token → Read A) where
       record { more = k.more; value = k.value; calm = k.calm; read = λ tail c. q (ts ++ (k.more ++ tail)) ∙ k.read tail c }
 
   module _ (start : f [] ≡ Err Ended → Finish A f []) (empty : (mid w : List Token) (a : A) → Calm w → f [] ≡ Ok (a, mid)
-        → f w ≡ Ok (a, mid ++ w)) (choice : (t : Token) → Choice A f t) where
+      → f w ≡ Ok (a, mid ++ w)) (choice : (t : Token) → Choice A f t) where
     choose_steady : (ts mid w : List Token) (a : A) → Calm w → f ts ≡ Ok (a, mid) → f (ts ++ w) ≡ Ok (a, mid ++ w)
     choose_steady [] mid w a c e = empty mid w a c e
     choose_steady (t ∷ ts) mid w a c e = choice_steady t ts mid w a c (choice t) e

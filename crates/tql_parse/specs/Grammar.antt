@@ -45,7 +45,7 @@ pub data IsExpr : List Token → Expr → List Token → Type 0 where
   number_is : (t : Token) (rest : List Token) → key t.kind ≡ K.Number → IsExpr (t ∷ rest) (E.Number t.place (number_of_kind t.kind)) rest
   negative : (minus t : Token) (rest : List Token)
       → key minus.kind ≡ K.Mark S.Minus → is is_number t
-          → IsExpr (minus ∷ t ∷ rest) (E.Number minus.place (pos 0 -ℤ number_of_kind t.kind)) rest
+      → IsExpr (minus ∷ t ∷ rest) (E.Number minus.place (pos 0 -ℤ number_of_kind t.kind)) rest
   text_is : (t : Token) (rest : List Token) → key t.kind ≡ K.Str → IsExpr (t ∷ rest) (E.Str t.place (bytes t.kind)) rest
   now : (t : Token) (ts : List Token) (s : Option Shift) (rest : List Token)
       → key t.kind ≡ K.Now → MayShift ts s rest → IsExpr (t ∷ ts) (E.Now t.place s) rest

@@ -72,8 +72,10 @@ abbrev pub shift_after : ℕ → Bool → List Token → Read (Option Shift)
 shift_after place back ts =
     one (λ k. is_number (key k)) ts >>= λ count.
     unit_name count.1 >>= λ unit.
-    Ok (Some (record { place = place; back = back; count_place = count.0.place; count = number_of_kind count.0.kind; unit = unit.0 }),
-          unit.1)
+    Ok (
+      Some (record { place = place; back = back; count_place = count.0.place; count = number_of_kind count.0.kind; unit = unit.0 }),
+      unit.1,
+    )
 
 -- the shift that begins with this key, if one does
 abbrev pub shift_by : Key → Token → List Token → Read (Option Shift)

@@ -49,7 +49,7 @@ number-range text =
 pub moment-range : (text : List ℕ) → InRange (moment_of text)
 moment-range text =
     elim (all_ascii_digits text) as (λ b. InRange (if b then positive (number_of 12 LAST_MOMENT text)
-          else (if is_date_form text then moment_read (parse_timestamp text) else None))) [
+    else (if is_date_form text then moment_read (parse_timestamp text) else None))) [
       | true ↦ number-range text
       | false ↦ elim (is_date_form text) as (λ b. InRange (if b then moment_read (parse_timestamp text) else None)) [
         | true ↦ read-range (parse_timestamp text)

@@ -261,30 +261,31 @@ scoped scope count True names knows below low high fine = tt
 scoped scope count False names knows below low high fine = tt
 scoped scope count (Or l r) names knows below low high fine =
     let parts = none-parts (first_fault scope count l) (first_fault scope (variables_after count l) r) fine in
-    let a = after-grows count l high in
-    (scoped scope count l names knows below low high parts.0,
-      scoped scope (variables_after count l) r names knows (λ k i. omega (arith, below k i, a.0)) (omega (arith, a.0)) a.1 parts.1)
+    let a = after-grows count l high in (
+      scoped scope count l names knows below low high parts.0,
+      scoped scope (variables_after count l) r names knows (λ k i. omega (arith, below k i, a.0)) (omega (arith, a.0)) a.1 parts.1,
+    )
 scoped scope count (And l r) names knows below low high fine =
     let parts = none-parts (first_fault scope count l) (first_fault scope (variables_after count l) r) fine in
-    let a = after-grows count l high in
-    (scoped scope count l names knows below low high parts.0,
-      scoped scope (variables_after count l) r names knows (λ k i. omega (arith, below k i, a.0)) (omega (arith, a.0)) a.1 parts.1)
+    let a = after-grows count l high in (
+      scoped scope count l names knows below low high parts.0,
+      scoped scope (variables_after count l) r names knows (λ k i. omega (arith, below k i, a.0)) (omega (arith, a.0)) a.1 parts.1,
+    )
 scoped scope count (Not x) names knows below low high fine = scoped scope count x names knows below low high fine
 scoped scope count (Exists name place table body) names knows below low high fine =
     let parts = none-parts (binder_fault scope count name place)
-        (first_fault (inner_scope scope count name place table) (next_variable count) body) fine in
+    (first_fault (inner_scope scope count name place table) (next_variable count) body) fine in
     let room : nat_lt count 6 ≡ true = binder-fine scope count name place parts.0 in
     let inner : inner_scope scope count name place table ≡ entered scope count name table = inside scope count name place table parts.0 in
     let next : next_variable count ≡ count + 1 = up count room in
     let less : count < 6 = lower count room in
     let body-fine : first_fault (entered scope count name table) (count + 1) body ≡ None = moved (inner_scope scope count name place table)
-        (entered scope count name table) (next_variable count) (count + 1) inner next parts.1 in
-        (
+    (entered scope count name table) (next_variable count) (count + 1) inner next parts.1 in (
       low,
       omega (arith, less),
       (λ i. absurd (omega (arith, below count i))),
       back (entered scope count name table) (inner_scope scope count name place table) (count + 1) (next_variable count) (sym inner)
-        (sym next)
+          (sym next)
           (scoped (entered scope count name table) (count + 1) body (count ∷ names)
           (λ variable i. elim (in-last variable _ scope i) [ inl j ↦ inr (knows variable j) | inr e ↦ inl (ap (λ v. v.var.0) e) ])
           (λ k i. elim i [ inl e ↦ omega (arith, e) | inr j ↦ omega (arith, below k j) ])
@@ -339,4 +340,4 @@ pub typed-is-query : (s : Syntax) (c : Condition) → typed s ≡ Ok c → IsQue
 typed-is-query s c e =
     let parts = typed-parts (first_fault first_scope 1 s) (core first_scope 1 s) c e in
     rw (sym parts.1) (scoped first_scope 1 s (0 ∷ []) first-knows
-        (λ k i. elim i [ inl same ↦ omega (arith, same) | inr none ↦ absurd none ]) (omega arith) (omega arith) parts.0)
+    (λ k i. elim i [ inl same ↦ omega (arith, same) | inr none ↦ absurd none ]) (omega arith) (omega arith) parts.0)

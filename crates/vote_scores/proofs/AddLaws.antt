@@ -21,7 +21,7 @@ inserted note (entry ∷ entries) = go (is_by note (vote_at entry)) (inserted no
   go : (b : Bool) → map vote_at (insert_entry key.ghosts.eq entries (key_of note) note.value) ≡ with_vote note (map vote_at entries)
       → map vote_at (if b then (entry.0, note.value) ∷ entries else entry ∷ insert_entry key.ghosts.eq entries (key_of note) note.value)
       ≡ (if b then record (vote_at entry) { value = note.value } ∷ map vote_at entries
-        else vote_at entry ∷ with_vote note (map vote_at entries))
+      else vote_at entry ∷ with_vote note (map vote_at entries))
   go true rest = refl
   go false rest = ap (λ votes. vote_at entry ∷ votes) rest
 
@@ -40,7 +40,7 @@ pub placed : (note : Note) (entries : List (VoteKey × ℤ))
 placed note [] = refl
 placed note (entry ∷ entries) =
     position_next (key.ghosts.eq (key_of note)) entry.0 (keys_of entries)
-      ∙ ap (λ n. if is_by note (vote_at entry) then 0 else suc n) (placed note entries)
+    ∙ ap (λ n. if is_by note (vote_at entry) then 0 else suc n) (placed note entries)
 
 pub looked_up : (note : Note) (entries : List (VoteKey × ℤ))
     → lookup (key.ghosts.eq (key_of note)) entries ≡ vote_value note (map vote_at entries)

@@ -106,7 +106,7 @@ module _ (weight : ℤ → ℤ) where
   unseen new later [] none = refl
   unseen new later (b ∷ bs) none =
       ap (λ t. if t then rest (new ∷ later) bs else weight b.1 +ℤ rest (new ∷ later) bs)
-        (or_no _ _ (bytes_flip b.0 new.0 ∙ or_first _ _ none))
+      (or_no _ _ (bytes_flip b.0 new.0 ∙ or_first _ _ none))
       ∙ ap (λ r. if has b.0 later then r else weight b.1 +ℤ r) (unseen new later bs (or_second _ _ none))
 
   -- one more ballot
@@ -119,14 +119,14 @@ module _ (weight : ℤ → ℤ) where
     same : bytes_eq new.0 b.0 ≡ true → rest later ((b.0, new.1) ∷ bs) ≡ own new later +ℤ rest (new ∷ later) (b ∷ bs)
     same e = by (has b.0 later) (ap (λ a. has a later) (bytes_same new.0 b.0 e))
         (unseen new later bs (ap (λ a. has a bs) (bytes_same new.0 b.0 e) ∙ u.0)) where
-      seen : rest (new ∷ later) (b ∷ bs) ≡ rest (new ∷ later) bs
-      seen = ap (λ t. if t then rest (new ∷ later) bs else weight b.1 +ℤ rest (new ∷ later) bs) (or_yes _ _ (bytes_flip b.0 new.0 ∙ e))
+          seen : rest (new ∷ later) (b ∷ bs) ≡ rest (new ∷ later) bs
+          seen = ap (λ t. if t then rest (new ∷ later) bs else weight b.1 +ℤ rest (new ∷ later) bs) (or_yes _ _ (bytes_flip b.0 new.0 ∙ e))
 
-      by : (t : Bool) → has new.0 later ≡ t → rest (new ∷ later) bs ≡ rest later bs
-          → (if t then rest later bs else weight new.1 +ℤ rest later bs) ≡ own new later +ℤ rest (new ∷ later) (b ∷ bs)
-      by true h i = sym (ap (λ r. own new later +ℤ r) (seen ∙ i) ∙ ap (λ t. (if t then pos 0 else weight new.1) +ℤ rest later bs) h
-            ∙ nil_sum (rest later bs))
-      by false h i = sym (ap (λ r. own new later +ℤ r) (seen ∙ i) ∙ ap (λ t. (if t then pos 0 else weight new.1) +ℤ rest later bs) h)
+          by : (t : Bool) → has new.0 later ≡ t → rest (new ∷ later) bs ≡ rest later bs
+              → (if t then rest later bs else weight new.1 +ℤ rest later bs) ≡ own new later +ℤ rest (new ∷ later) (b ∷ bs)
+          by true h i = sym (ap (λ r. own new later +ℤ r) (seen ∙ i) ∙ ap (λ t. (if t then pos 0 else weight new.1) +ℤ rest later bs) h
+              ∙ nil_sum (rest later bs))
+          by false h i = sym (ap (λ r. own new later +ℤ r) (seen ∙ i) ∙ ap (λ t. (if t then pos 0 else weight new.1) +ℤ rest later bs) h)
 
     other : bytes_eq new.0 b.0 ≡ false → rest later (put new bs) ≡ own new later +ℤ rest (new ∷ later) bs
         → rest later (b ∷ put new bs) ≡ own new later +ℤ rest (new ∷ later) (b ∷ bs)
@@ -140,9 +140,9 @@ module _ (weight : ℤ → ℤ) where
           (ap (λ r. own new later +ℤ r) (unlike ∙ ap (λ t. if t then rest (new ∷ later) bs else weight b.1 +ℤ rest (new ∷ later) bs) h))
       by false h =
           ap (λ t. if t then rest later (put new bs) else weight b.1 +ℤ rest later (put new bs)) h ∙ ap (λ r. weight b.1 +ℤ r) i
-            ∙ swapped (weight b.1) (own new later) (rest (new ∷ later) bs)
+          ∙ swapped (weight b.1) (own new later) (rest (new ∷ later) bs)
           ∙ sym
-              (ap (λ r. own new later +ℤ r) (unlike ∙ ap (λ t. if t then rest (new ∷ later) bs else weight b.1 +ℤ rest (new ∷ later) bs) h))
+          (ap (λ r. own new later +ℤ r) (unlike ∙ ap (λ t. if t then rest (new ∷ later) bs else weight b.1 +ℤ rest (new ∷ later) bs) h))
 
     go : (t : Bool) → bytes_eq new.0 b.0 ≡ t → rest later (put new bs) ≡ own new later +ℤ rest (new ∷ later) bs
         → rest later (if t then (b.0, new.1) ∷ bs else b ∷ put new bs) ≡ own new later +ℤ rest (new ∷ later) (b ∷ bs)
@@ -156,7 +156,7 @@ module _ (weight : ℤ → ℤ) where
   all_from [] bs u = sym (sum_nil (rest [] bs))
   all_from (b ∷ new) bs u =
       all_from new (put b bs) (put_unique b bs u) ∙ ap (λ r. r +ℤ weigh (lasts new)) (put_rest b new bs u)
-        ∙ moved (own b new) (rest (b ∷ new) bs) (weigh (lasts new)) ∙ ap (λ r. rest (b ∷ new) bs +ℤ r) (by (has b.0 new))
+      ∙ moved (own b new) (rest (b ∷ new) bs) (weigh (lasts new)) ∙ ap (λ r. rest (b ∷ new) bs +ℤ r) (by (has b.0 new))
     where
       by : (t : Bool) → (if t then pos 0 else weight b.1) +ℤ weigh (lasts new) ≡ weigh (if t then lasts new else b ∷ lasts new)
       by true = nil_sum (weigh (lasts new))

@@ -48,7 +48,7 @@ pub grown_fits : (scores : List Score) (score : Score) (value : ℤ) → AreSmal
     → FitsSigned w64 value → FitsSigned w128 (score.sum +ℤ value)
 grown_fits scores score value small among fits =
     let s = each_among (λ (score : Score). (score.voters ≤ 4294967294) × (neg_ℤ (pos (9223372036854775808 * 4294967294)) ≤ℤ score.sum)
-          × (score.sum ≤ℤ pos (9223372036854775808 * 4294967294))) scores score small among in
+    × (score.sum ≤ℤ pos (9223372036854775808 * 4294967294))) scores score small among in
     sum_fits score.sum value s.1 s.2 fits
 
 -- a score with one more vote
@@ -65,7 +65,7 @@ raised_from doc value ((k, score) ∷ entries) old keyed there =
   where
     go : (b : Bool) → nat_eq doc k ≡ b → nat_eq doc score.doc.0 ≡ nat_eq doc k
         → (if nat_eq doc k then Some score else lookup (nat_eq doc) entries) ≡ Some old → (lookup (nat_eq doc) entries ≡ Some old
-          → values_of (set_value (nat_eq doc) entries (more value old)) ≡ with_vote_counted doc value (values_of entries))
+        → values_of (set_value (nat_eq doc) entries (more value old)) ≡ with_vote_counted doc value (values_of entries))
         → values_of (set_value (nat_eq doc) ((k, score) ∷ entries) (more value old))
         ≡ with_vote_counted doc value (score ∷ values_of entries)
     go true q t there rest =
@@ -79,23 +79,23 @@ docs_raised : (doc : ℕ) (value : ℤ) (entries : List (ℕ × Score)) (old : S
 docs_raised doc value [] old keyed there = absurd cc
 docs_raised doc value ((k, score) ∷ entries) old keyed there =
     go (nat_eq doc k) refl there (docs_raised doc value entries old (tail_is keyed)) where
-  joined : {x y : ℕ} {xs ys : List ℕ} → x ≡ y → xs ≡ ys → x ∷ xs ≡ y ∷ ys
-  joined e t = cc
+      joined : {x y : ℕ} {xs ys : List ℕ} → x ≡ y → xs ≡ ys → x ∷ xs ≡ y ∷ ys
+      joined e t = cc
 
-  go : (b : Bool) → nat_eq doc k ≡ b → (if nat_eq doc k then Some score else lookup (nat_eq doc) entries) ≡ Some old
-      → (lookup (nat_eq doc) entries ≡ Some old → AreUnderTheirDocuments (set_value (nat_eq doc) entries (more value old)))
-      → AreUnderTheirDocuments (set_value (nat_eq doc) ((k, score) ∷ entries) (more value old))
-  go true q there rest =
-      let there' = rw q at there in
-      let is : score ≡ old = cc in
-      rw q (joined (head_is keyed ∙ ap (λ (s : Score). s.doc.0) is) (tail_is keyed))
-  go false q there rest = let there' = rw q at there in rw q (joined (head_is keyed) (rest there'))
+      go : (b : Bool) → nat_eq doc k ≡ b → (if nat_eq doc k then Some score else lookup (nat_eq doc) entries) ≡ Some old
+          → (lookup (nat_eq doc) entries ≡ Some old → AreUnderTheirDocuments (set_value (nat_eq doc) entries (more value old)))
+          → AreUnderTheirDocuments (set_value (nat_eq doc) ((k, score) ∷ entries) (more value old))
+      go true q there rest =
+          let there' = rw q at there in
+          let is : score ≡ old = cc in
+          rw q (joined (head_is keyed ∙ ap (λ (s : Score). s.doc.0) is) (tail_is keyed))
+      go false q there rest = let there' = rw q at there in rw q (joined (head_is keyed) (rest there'))
 
 raised_is : (value : ℤ) (old new : Score) → new.doc ≡ old.doc → new.voters ≡ old.voters + 1 → new.sum ≡ old.sum +ℤ value
     → new ≡ more value old
 raised_is value old new d v s =
     ap (λ x. record { doc = x; voters = new.voters; sum = new.sum }) d ∙ ap (λ x. record { doc = old.doc; voters = x; sum = new.sum }) v
-        ∙ ap (λ x. record { doc = old.doc; voters = old.voters + 1; sum = x }) s
+    ∙ ap (λ x. record { doc = old.doc; voters = old.voters + 1; sum = x }) s
 
 -- the scores of a map in which one was raised
 pub raised : (doc : ℕ) (value : ℤ) (entries others : List (ℕ × Score)) (old new : Score) → AreUnderTheirDocuments entries
@@ -103,14 +103,14 @@ pub raised : (doc : ℕ) (value : ℤ) (entries others : List (ℕ × Score)) (o
     → new.sum ≡ old.sum +ℤ value → values_of others ≡ with_vote_counted doc value (values_of entries)
 raised doc value entries others old new keyed there are d v s =
     ap values_of (are ∙ ap (λ score. set_value (nat_eq doc) entries score) (raised_is value old new d v s))
-      ∙ raised_from doc value entries old keyed there
+    ∙ raised_from doc value entries old keyed there
 
 pub raised_keyed : (doc : ℕ) (value : ℤ) (entries others : List (ℕ × Score)) (old new : Score) → AreUnderTheirDocuments entries
     → lookup (nat_eq doc) entries ≡ Some old → others ≡ set_value (nat_eq doc) entries new → new.doc ≡ old.doc → new.voters ≡ old.voters + 1
     → new.sum ≡ old.sum +ℤ value → AreUnderTheirDocuments others
 raised_keyed doc value entries others old new keyed there are d v s =
     subst AreUnderTheirDocuments (sym (are ∙ ap (λ score. set_value (nat_eq doc) entries score) (raised_is value old new d v s)))
-      (docs_raised doc value entries old keyed there)
+    (docs_raised doc value entries old keyed there)
 
 -- a new score
 
@@ -125,7 +125,7 @@ new_from doc value ((k, score) ∷ entries) keyed none =
   where
     go : (b : Bool) → nat_eq doc k ≡ b → nat_eq doc score.doc.0 ≡ nat_eq doc k
         → (if nat_eq doc k then Some score else lookup (nat_eq doc) entries) ≡ None → (lookup (nat_eq doc) entries ≡ None
-          → values_of (insert_entry nat_eq entries doc (begun doc value)) ≡ with_vote_counted doc value (values_of entries))
+        → values_of (insert_entry nat_eq entries doc (begun doc value)) ≡ with_vote_counted doc value (values_of entries))
         → values_of (insert_entry nat_eq ((k, score) ∷ entries) doc (begun doc value))
         ≡ with_vote_counted doc value (score ∷ values_of entries)
     go true q t none rest = let none' = rw q at none in absurd cc
@@ -147,8 +147,8 @@ docs_new doc value ((k, score) ∷ entries) keyed none = go (nat_eq doc k) refl 
 begun_is : (doc : ℕ) (value : ℤ) (new : Score) → new.doc.0 ≡ doc → new.voters ≡ 1 → new.sum ≡ value → new ≡ begun doc value
 begun_is doc value new d v s =
     ap (λ x. record { doc = record { 0 = x }; voters = new.voters; sum = new.sum }) d
-        ∙ ap (λ x. record { doc = record { 0 = doc }; voters = x; sum = new.sum }) v
-        ∙ ap (λ x. record { doc = record { 0 = doc }; voters = 1; sum = x }) s
+    ∙ ap (λ x. record { doc = record { 0 = doc }; voters = x; sum = new.sum }) v
+    ∙ ap (λ x. record { doc = record { 0 = doc }; voters = 1; sum = x }) s
 
 -- the scores of a map to which one was added
 pub added : (doc : ℕ) (value : ℤ) (entries old others : List (ℕ × Score)) (new : Score) → AreUnderTheirDocuments entries
@@ -156,11 +156,11 @@ pub added : (doc : ℕ) (value : ℤ) (entries old others : List (ℕ × Score))
     → new.sum ≡ value → values_of others ≡ with_vote_counted doc value (values_of entries)
 added doc value entries old others new keyed none same are d v s =
     ap values_of (are ∙ ap (λ es. insert_entry nat_eq es doc new) same
-        ∙ ap (λ score. insert_entry nat_eq entries doc score) (begun_is doc value new d v s)) ∙ new_from doc value entries keyed none
+    ∙ ap (λ score. insert_entry nat_eq entries doc score) (begun_is doc value new d v s)) ∙ new_from doc value entries keyed none
 
 pub added_keyed : (doc : ℕ) (value : ℤ) (entries old others : List (ℕ × Score)) (new : Score) → AreUnderTheirDocuments entries
     → lookup (nat_eq doc) entries ≡ None → old ≡ entries → others ≡ insert_entry nat_eq old doc new → new.doc.0 ≡ doc → new.voters ≡ 1
     → new.sum ≡ value → AreUnderTheirDocuments others
 added_keyed doc value entries old others new keyed none same are d v s =
     subst AreUnderTheirDocuments (sym (are ∙ ap (λ es. insert_entry nat_eq es doc new) same
-          ∙ ap (λ score. insert_entry nat_eq entries doc score) (begun_is doc value new d v s))) (docs_new doc value entries keyed none)
+    ∙ ap (λ score. insert_entry nat_eq entries doc score) (begun_is doc value new d v s))) (docs_new doc value entries keyed none)

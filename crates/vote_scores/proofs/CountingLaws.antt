@@ -49,6 +49,8 @@ module _ (kind : List ℕ) (votes : List Vote) (counts : List Score) (entry : Vo
 
   pub one_counted : (new : List Score) → FitsSigned w64 entry.1 → new ≡ counted_if kind (vote_at entry) counts
       → Counting kind votes new rest
-  one_counted new fits is_new =
-      (from_here ∙ ap (λ scores. counted_from kind scores (map vote_at rest)) (sym is_new), fewer,
-        subst (AreSmall (length votes - length rest)) (sym is_new) (grown fits (bytes_eq entry.0.kind kind)))
+  one_counted new fits is_new = (
+    from_here ∙ ap (λ scores. counted_from kind scores (map vote_at rest)) (sym is_new),
+    fewer,
+    subst (AreSmall (length votes - length rest)) (sym is_new) (grown fits (bytes_eq entry.0.kind kind)),
+  )

@@ -45,7 +45,7 @@ found_same doc value [] = ap (λ b. if b then Some (grown doc value None) else N
 found_same doc value (score ∷ scores) = go (doc == score.doc.0) refl (found_same doc value scores) where
   go : (b : Bool) → (doc == score.doc.0) ≡ b → found doc (with_vote_counted doc value scores) ≡ Some (grown doc value (found doc scores))
       → found doc (if b then record score { voters = score.voters + 1; sum = score.sum +ℤ value } ∷ scores
-        else score ∷ with_vote_counted doc value scores) ≡ Some (grown doc value (if b then Some score else found doc scores))
+      else score ∷ with_vote_counted doc value scores) ≡ Some (grown doc value (if b then Some score else found doc scores))
   go true e i = ap (λ b. if b then Some (grown doc value (Some score)) else found doc scores) e
   go false e i = ap (λ b. if b then Some score else found doc (with_vote_counted doc value scores)) e ∙ i
 
@@ -55,11 +55,11 @@ found_other doc other value [] e = ap (λ b. if b then Some (grown other value N
 found_other doc other value (score ∷ scores) e = go (other == score.doc.0) refl (found_other doc other value scores e) where
   go : (b : Bool) → (other == score.doc.0) ≡ b → found doc (with_vote_counted other value scores) ≡ found doc scores
       → found doc (if b then record score { voters = score.voters + 1; sum = score.sum +ℤ value } ∷ scores
-        else score ∷ with_vote_counted other value scores) ≡ (if doc == score.doc.0 then Some score else found doc scores)
+      else score ∷ with_vote_counted other value scores) ≡ (if doc == score.doc.0 then Some score else found doc scores)
   go true q i =
       let no : (doc == score.doc.0) ≡ false = ap (λ n. doc == n) (sym (same_number other score.doc.0 q)) ∙ e in
       ap (λ b. if b then Some (grown other value (Some score)) else found doc scores) no
-        ∙ sym (ap (λ b. if b then Some score else found doc scores) no)
+      ∙ sym (ap (λ b. if b then Some score else found doc scores) no)
   go false q i = ap (λ rest. if doc == score.doc.0 then Some score else rest) i
 
 found_from : (kind : List ℕ) (doc : ℕ) (scores : List Score) (votes : List Vote)
@@ -67,15 +67,16 @@ found_from : (kind : List ℕ) (doc : ℕ) (scores : List Score) (votes : List V
 found_from kind doc scores [] = refl
 found_from kind doc scores (vote ∷ votes) = found_from kind doc (counted_if kind vote scores) votes
     ∙ go (bytes_eq vote.kind kind) (vote.doc == doc) refl where
-  go : (k d : Bool) → (vote.doc == doc) ≡ d
-      → scored doc (found doc (if k then with_vote_counted vote.doc vote.value scores else scores)) (ballots kind doc votes)
-      ≡ scored doc (found doc scores) (if k && d then (vote.author, vote.value) ∷ ballots kind doc votes else ballots kind doc votes)
-  go false d q = refl
-  go true true q =
-      let is : vote.doc ≡ doc = same_number vote.doc doc q in
-      ap (λ o. scored doc o (ballots kind doc votes))
-        (ap (λ n. found doc (with_vote_counted n vote.value scores)) is ∙ found_same doc vote.value scores)
-  go true false q = ap (λ o. scored doc o (ballots kind doc votes)) (found_other doc vote.doc vote.value scores (flipped doc vote.doc ∙ q))
+      go : (k d : Bool) → (vote.doc == doc) ≡ d
+          → scored doc (found doc (if k then with_vote_counted vote.doc vote.value scores else scores)) (ballots kind doc votes)
+          ≡ scored doc (found doc scores) (if k && d then (vote.author, vote.value) ∷ ballots kind doc votes else ballots kind doc votes)
+      go false d q = refl
+      go true true q =
+          let is : vote.doc ≡ doc = same_number vote.doc doc q in
+          ap (λ o. scored doc o (ballots kind doc votes))
+          (ap (λ n. found doc (with_vote_counted n vote.value scores)) is ∙ found_same doc vote.value scores)
+      go true false q =
+          ap (λ o. scored doc o (ballots kind doc votes)) (found_other doc vote.doc vote.value scores (flipped doc vote.doc ∙ q))
 
 -- in one step
 
@@ -90,7 +91,7 @@ scored_some : (doc : ℕ) (score : Score) (bs : List Ballot)
 scored_some doc score [] = score_is score.doc score.voters (score.voters + 0) score.sum _ (omega arith) (omega (arith, ints))
 scored_some doc score (b ∷ bs) =
     scored_some doc (grown doc b.1 (Some score)) bs
-      ∙ score_is score.doc (score.voters + 1 + length bs) (score.voters + suc (length bs)) _ _ (omega arith) (omega (arith, ints))
+    ∙ score_is score.doc (score.voters + 1 + length bs) (score.voters + suc (length bs)) _ _ (omega arith) (omega (arith, ints))
 
 -- the score of that many votes with a sum
 abbrev score_in : DocNum → ℕ → ℤ → Option Score
@@ -112,7 +113,7 @@ pub found_is : (kind : List ℕ) (doc : DocNum) (notes : List Note)
 found_is kind doc notes =
     found_from kind doc.0 [] (tally notes) ∙ scored_none doc.0 (ballots kind doc.0 (tally notes))
     ∙ ap (λ n. score_in doc n (weigh (λ value. value) (ballots kind doc.0 (tally notes)))) (voters_are kind doc.0 notes)
-        ∙ ap (λ s. score_in doc (length (votes_on kind doc.0 notes)) s) (sum_is kind doc.0 notes)
+    ∙ ap (λ s. score_in doc (length (votes_on kind doc.0 notes)) s) (sum_is kind doc.0 notes)
     ∙ sym (by_in doc (votes_on kind doc.0 notes))
 
 -- counted scores are of distinct documents
@@ -128,7 +129,7 @@ in_counted doc value (score ∷ scores) x i = go (doc == score.doc.0) i (λ j. i
   deeper (inr q) = inr (q.0, inr q.1, q.2)
 
   go : (b : Bool) → In x (if b then record score { voters = score.voters + 1; sum = score.sum +ℤ value } ∷ scores
-        else score ∷ with_vote_counted doc value scores)
+      else score ∷ with_vote_counted doc value scores)
       → (In x (with_vote_counted doc value scores) → (x.doc.0 ≡ doc) ⊎ ((y : Score) × In y scores × (x.doc.0 ≡ y.doc.0)))
       → (x.doc.0 ≡ doc) ⊎ ((y : Score) × In y (score ∷ scores) × (x.doc.0 ≡ y.doc.0))
   go true (inl e) rest = inr (score, inl refl, ap (λ (s : Score). s.doc.0) e)
@@ -145,7 +146,7 @@ counted_apart doc value (score ∷ scores) apart = go (doc == score.doc.0) refl 
   other e y (inr q) same = apart.0 q.0 q.1 (sym q.2 ∙ same)
 
   go : (b : Bool) → (doc == score.doc.0) ≡ b → ScoresAreApart (with_vote_counted doc value scores) → ScoresAreApart (if b
-        then record score { voters = score.voters + 1; sum = score.sum +ℤ value } ∷ scores else score ∷ with_vote_counted doc value scores)
+      then record score { voters = score.voters + 1; sum = score.sum +ℤ value } ∷ scores else score ∷ with_vote_counted doc value scores)
   go true e rest = apart
   go false e rest = ((λ y i. other e y (in_counted doc value scores y i)), rest)
 
@@ -154,9 +155,9 @@ pub counted_from_apart : (kind : List ℕ) (scores : List Score) (votes : List V
 counted_from_apart kind scores [] apart = apart
 counted_from_apart kind scores (vote ∷ votes) apart =
     counted_from_apart kind (counted_if kind vote scores) votes (go (bytes_eq vote.kind kind)) where
-  go : (b : Bool) → ScoresAreApart (if b then with_vote_counted vote.doc vote.value scores else scores)
-  go true = counted_apart vote.doc vote.value scores apart
-  go false = apart
+      go : (b : Bool) → ScoresAreApart (if b then with_vote_counted vote.doc vote.value scores else scores)
+      go true = counted_apart vote.doc vote.value scores apart
+      go false = apart
 
 -- what is found is among the scores
 

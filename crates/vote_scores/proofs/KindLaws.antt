@@ -136,7 +136,7 @@ module _ (kind : List ℕ) (tables : Tables) (sound : AreNumbered tables) where
     on q =
         let within = each_in (λ (note : Note). (1 ≤ note.doc.0) × (note.doc.0 ≤ length tables.docs)) tables.notes q.0 sound.notes q.1 in
         numbered 1 (pos 0) tables.docs score.doc.0 sound.docs (let w = within.0 in let n = q.2 in omega (arith, w, n))
-            (let w = within.1 in let n = q.2 in omega (arith, w, n))
+        (let w = within.1 in let n = q.2 in omega (arith, w, n))
 
     listed : (doc : Doc) × In doc tables.docs × (doc.num.0 ≡ score.doc.0) → In score theirs
     listed q = map_in (score_of kind tables.notes) tables.docs q.0 score

@@ -111,4 +111,4 @@ pub same_order : (xs ys : List Score) → ScoresAreApart xs → ScoresAreApart y
     → ((s : Score) → In s ys → In s xs) → scores_in_order xs ≡ scores_in_order ys
 same_order xs ys a b to back =
     same_rising (scores_in_order xs) (scores_in_order ys) (rising_order xs a) (rising_order ys b)
-      (λ s i. in_ordered s ys (to s (ordered_in s xs i))) (λ s i. in_ordered s xs (back s (ordered_in s ys i)))
+    (λ s i. in_ordered s ys (to s (ordered_in s xs i))) (λ s i. in_ordered s xs (back s (ordered_in s ys i)))

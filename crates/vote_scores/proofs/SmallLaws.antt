@@ -39,7 +39,7 @@ small_more n doc value [] fits small =
     ((omega arith, b.0, b.1), tt)
 small_more n doc value (score ∷ scores) fits small = go (doc == score.doc.0) (small_more n doc value scores fits small.1) where
   go : (b : Bool) → AreSmall (n + 1) (with_vote_counted doc value scores) → AreSmall (n + 1) (if b
-        then record score { voters = score.voters + 1; sum = score.sum +ℤ value } ∷ scores else score ∷ with_vote_counted doc value scores)
+      then record score { voters = score.voters + 1; sum = score.sum +ℤ value } ∷ scores else score ∷ with_vote_counted doc value scores)
   go true rest =
       let v = value_within value fits in
       let g = grown n score.sum value small.0.1 small.0.2 v.0 v.1 in

@@ -42,7 +42,7 @@ same_is : (x y : Score) → same_score x y ≡ true → x ≡ y
 same_is x y h =
     let p = same_parts x y h in
     ap (λ n. record { doc = record { 0 = n }; voters = x.voters; sum = x.sum }) p.0
-        ∙ ap (λ n. record { doc = y.doc; voters = n; sum = x.sum }) p.1 ∙ ap (λ n. record { doc = y.doc; voters = y.voters; sum = n }) p.2
+    ∙ ap (λ n. record { doc = y.doc; voters = n; sum = x.sum }) p.1 ∙ ap (λ n. record { doc = y.doc; voters = y.voters; sum = n }) p.2
 
 in_any : (p : Score → Bool) (xs : List Score) (x : Score) → In x xs → p x ≡ true → list_any p xs ≡ true
 in_any p [] x i h = absurd i
@@ -134,4 +134,4 @@ sorted_is xs ys p a s =
     let same = λ (score : Score). list_any-IsPermutation (same_score score) xs ys p in
     same_rising ys (scores_in_order xs) (in_order_all ys (apart_moved xs ys p a) s) (rising_order xs a)
     (λ score i. in_ordered score xs (moved ys xs score (sym (same score)) i)) (λ score i.
-      moved xs ys score (same score) (ordered_in score xs i))
+    moved xs ys score (same score) (ordered_in score xs i))

@@ -57,7 +57,7 @@ module _ (turns : List Turn) (i : ℕ) (t : Turn) (at : slice_get turns i ≡ So
       split : (x ≡ t) ⊎ In x (drop (i + 1) turns)
           → IsBehind (nearer first i (due_mark t.next)) (due_mark x.next) ⊎ In x (drop (i + 1) turns)
       split (inl q) = inl (subst (λ (z : Turn). IsBehind (nearer first i (due_mark t.next)) (due_mark z.next)) (sym q)
-            (now_behind first i (due_mark t.next)))
+          (now_behind first i (due_mark t.next)))
       split (inr k) = inr k
 
       go : IsBehind first (due_mark x.next) ⊎ In x (drop i turns)

@@ -98,7 +98,7 @@ module _ (w : Window) (turns : List Turn) (x : FirstPlace) (each : Each (IsTurn 
         let k = due_hit w st.turn here due.0 due.1 b.0 (sym found_is ∙ b.1) in
         let q : b.0 ≡ x.mark = k.3 ∙ due.2 in
         b.1 ∙ sym (mark_is (flat_map (hits_left w) turns) b.0 k.0 (to_flat (hits_left w) turns
-              st.turn k.0 (get_in turns x.index st.turn st.at) k.1) k.2 (λ j i. subst (λ z. z ≤ℤ j.first) (sym q) (all_later j i)))
+        st.turn k.0 (get_in turns x.index st.turn st.at) k.1) k.2 (λ j i. subst (λ z. z ≤ℤ j.first) (sym q) (all_later j i)))
 
     pub found_within : is_some found ≡ true → (b : ℤ) × (found ≡ Some b) × (lies_in w (Some b) ≡ true)
     found_within s =

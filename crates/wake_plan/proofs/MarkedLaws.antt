@@ -109,7 +109,7 @@ module _ (T : Tables) (u : Window) (p : Probe) (k : IsProbe p) (plain : IsPlain 
   v_is : (v : Var) → seek_var (seek_of p.at) ≡ Some v → v ≡ document_var
   v_is v e =
       let i : In v.0 (numbers_of (driven p.at.base)) =
-          subst (λ vs. In v.0 (numbers_of vs)) (sym (driven_is p.at ∙ ap option_to_list e)) (inl refl) in
+      subst (λ vs. In v.0 (numbers_of vs)) (sym (driven_is p.at ∙ ap option_to_list e)) (inl refl) in
       let q : v.0 ≡ 0 = only_var v.0 (driven_in p.at.base (vars_of p.path) k.at v.0 i) ∙ sym (only_var 0 zero_var) in
       ap (λ n. record { 0 = n }) q
 
@@ -117,7 +117,7 @@ module _ (T : Tables) (u : Window) (p : Probe) (k : IsProbe p) (plain : IsPlain 
       → length (filter (λ d. lies_in u (value p.at (asked_of d))) T.docs) ≡ marked_by T u p o
   marked_is None e =
       filter_length (λ d. lies_in u (value p.at (asked_of d))) (λ d. lies_in u (value p.at [])) T.docs (λ d.
-        ap (lies_in u) (fixed_value p.at (asked_of d) e))
+      ap (lies_in u) (fixed_value p.at (asked_of d) e))
       ∙ filter_each (lies_in u (value p.at [])) T.docs
   marked_is (Some v) e =
       sym (ap (λ (z : Var). length (filter (λ row. lies_in u (value p.at (bind z row []))) (rows_of (table_in p.path z.0) T))) (v_is v e)

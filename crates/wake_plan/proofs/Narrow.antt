@@ -41,8 +41,10 @@ module _ {A : Type 0} where
   filter_narrow p q [] h = refl
   filter_narrow p q (x ∷ xs) h =
       elim (cases_Bool (p x)) [
-        | inl e ↦ elim (cases_Bool (q x)) [ inl k ↦ rw (e, k) (ap (λ z. x ∷ z) (filter_narrow p q xs h))
-            | inr k ↦ rw (e, k) (filter_narrow p q xs h) ]
+        | inl e ↦ elim (cases_Bool (q x)) [
+          | inl k ↦ rw (e, k) (ap (λ z. x ∷ z) (filter_narrow p q xs h))
+          | inr k ↦ rw (e, k) (filter_narrow p q xs h)
+        ]
         | inr e ↦ elim (cases_Bool (q x)) [ inl k ↦ absurd (false≢true (sym e ∙ h x k)) | inr k ↦ rw (e, k) (filter_narrow p q xs h) ]
       ]
 
@@ -62,7 +64,7 @@ rows_narrow : {A : Type 0} (of : A → Row) (f : A → ℤ) (xs : List A) (W U :
 rows_narrow of f xs W U q n h =
     filter_map q of (filter (λ x. is_within W (f x)) xs)
     ∙ ap (map of) (filter_same_in (λ x. q (of x)) (λ x. is_within U (f x)) (filter (λ x. is_within W (f x)) xs) h
-          ∙ filter_narrow (λ x. is_within W (f x)) (λ x. is_within U (f x)) xs (λ x. n (f x)))
+    ∙ filter_narrow (λ x. is_within W (f x)) (λ x. is_within U (f x)) xs (λ x. n (f x)))
 
 module _ (T : Tables) (W U : Window) (narrow : (y : ℤ) → is_within U y ≡ true → is_within W y ≡ true) (q : Row → Bool) where
   arrived_narrow : ((row : Row) → q row ≡ is_within U (arrival row)) → (t : Table) → filter q (arrived_rows t W T) ≡ arrived_rows t U T
@@ -74,9 +76,9 @@ module _ (T : Tables) (W U : Window) (narrow : (y : ℤ) → is_within U y ≡ t
   dated_narrow h l Notes = refl
   dated_narrow h l Docs = rows_narrow OfDoc stored_date (in_date_order T.docs) W U q narrow (λ d i.
       let has : (has_date d && is_within W (stored_date d)) ≡ true = sym (date_lies W d)
-          ∙ l (OfDoc d) (in_map OfDoc (filter (λ x. is_within W (stored_date x)) (in_date_order T.docs)) d i) in
+      ∙ l (OfDoc d) (in_map OfDoc (filter (λ x. is_within W (stored_date x)) (in_date_order T.docs)) d i) in
       h (OfDoc d) ∙ date_lies U d
-        ∙ first (has_date d) (is_within U (stored_date d)) (and_parts (has_date d) (is_within W (stored_date d)) has).0)
+      ∙ first (has_date d) (is_within U (stored_date d)) (and_parts (has_date d) (is_within W (stored_date d)) has).0)
     where
       first : (a b : Bool) → a ≡ true → (a && b) ≡ b
       first true b e = refl
@@ -110,7 +112,7 @@ module _ (T : Tables) (w u : Window) (p : Probe) (v : Var) (k : IsUpTo w u) (b :
   driving_narrow : filter (λ row. lies_in u (value p.at (bind v row []))) (driving T w p (seek_of p.at) v) ≡ driving T u p (seek_of p.at) v
   driving_narrow =
       stored_narrow T (seek_window w (seek_of p.at)) (seek_window u (seek_of p.at)) (seek_narrow (seek_of p.at) w u k)
-        (λ row. lies_in u (value p.at (bind v row []))) v (seek_of p.at) e (λ row. solved p.at u (bind v row []) b) (table_in p.path v.0)
+      (λ row. lies_in u (value p.at (bind v row []))) v (seek_of p.at) e (λ row. solved p.at u (bind v row []) b) (table_in p.path v.0)
 
   -- the guard whose posting list is walked is the same for each window
   pub walked_narrow : filter (λ env. lies_in u (value p.at env)) (bound_alone v (walked T w p (seek_of p.at) v))

@@ -105,8 +105,11 @@ module _ (seen : Doc → Bool) (X : List Probe) (T : Tables) (last : ℤ) where
       less s t u h k = omega (arith, ints)
 
 pub wakes_are_next : WakesAreNext
-wakes_are_next seen X T last now l = (go (least_mark (all seen X T last)) refl, λ e s h. none_to seen X T last s h (λ k i c.
-      subst (λ z. In k z) (no_mark (all seen X T last) (never (least_mark (all seen X T last)) e)) i))
+wakes_are_next seen X T last now l = (
+  go (least_mark (all seen X T last)) refl,
+  λ e s h. none_to seen X T last s h (λ k i c.
+      subst (λ z. In k z) (no_mark (all seen X T last) (never (least_mark (all seen X T last)) e)) i),
+)
   where
     go : (o : Option ℤ) → least_mark (all seen X T last) ≡ o
         → IfSome (option_map (λ b. greater now (after_mark b)) (least_mark (all seen X T last))) (IsNextWake seen X T last now)

@@ -94,7 +94,7 @@ module _ (v : Var) where
   in_days x y n b c h e f =
       subst (λ z. z ≤ℤ c) e (subst (λ z. round_up_to_day (x +ℤ n) ≤ℤ z) f
       (day_rises (x +ℤ n) (y +ℤ n) (round_up_to_day (x +ℤ n)) (round_up_to_day (y +ℤ n)) (round_up_to_day-day (x +ℤ n))
-        (round_up_to_day-day (y +ℤ n)) (plus_rises x y n h)))
+      (round_up_to_day-day (y +ℤ n)) (plus_rises x y n h)))
 
   -- a row whose stored second is no greater has no greater mark
   mark_rises : (base : Base) (plus : ℤ) → seek_var (seek_from base plus) ≡ Some v → (r s : Row) → IsSooner base r s → (b c : ℤ)
@@ -117,9 +117,9 @@ module _ (v : Var) where
       let x = plus_some _ plus b eb in
       let y = plus_some _ plus c ec in
       let p : round_up_to_day (arrival r +ℤ n) ≡ x.0 =
-          some_same (sym (bound_row u r (λ r. Some (round_up_to_day (arrival r +ℤ n))) e) ∙ x.1) in
+      some_same (sym (bound_row u r (λ r. Some (round_up_to_day (arrival r +ℤ n))) e) ∙ x.1) in
       let q : round_up_to_day (arrival s +ℤ n) ≡ y.0 =
-          some_same (sym (bound_row u s (λ r. Some (round_up_to_day (arrival r +ℤ n))) e) ∙ y.1) in
+      some_same (sym (bound_row u s (λ r. Some (round_up_to_day (arrival r +ℤ n))) e) ∙ y.1) in
       moved x.0 y.0 plus b c (in_days (arrival r) (arrival s) n x.0 y.0 h p q) x.2 y.2
   mark_rises (B.DateDay u n) plus e r s h b c eb ec =
       let x = plus_some _ plus b eb in
@@ -192,7 +192,7 @@ put_ordered d (o ∷ ds) h =
     elim (cases_Bool (is_earlier d o)) [
       | inl e ↦ rw e ((λ y i. first (lesser_date (stored_date d) (stored_date o) d.num.0 o.num.0 e) y i), h)
       | inr e ↦
-        rw e ((λ y i. later (greater_date (stored_date d) (stored_date o) d.num.0 o.num.0 e) y (in_put y d ds i)), put_ordered d ds h.1)
+          rw e ((λ y i. later (greater_date (stored_date d) (stored_date o) d.num.0 o.num.0 e) y (in_put y d ds i)), put_ordered d ds h.1)
     ]
   where
     first : stored_date d ≤ℤ stored_date o → (y : Doc) → (y ≡ o) ⊎ In y ds → stored_date d ≤ℤ stored_date y

@@ -41,9 +41,9 @@ module _ (w : Window) (t : Turn) (rows : List Row)
   rising_rows =
       rows_rise t.var w p e rows
       (λ row i. (driven_are t.search.index.now w p t.var bounded e row
-          (walked_in t.search.index.now w p (seek_of p.at) t.var row (subst (λ z. In row z) all i))).1)
+      (walked_in t.search.index.now w p (seek_of p.at) t.var row (subst (λ z. In row z) all i))).1)
       (subst (λ z. AreSooner p.at.base z) (sym all) (walked_sooner p.at.base t.search.index.now w p (seek_of p.at) t.var (stored_sooner
-            t.search.index.now (seek_window w (seek_of p.at)) docs.rising notes.rising p.at.base p.at.plus (table_in p.path t.var.0))))
+      t.search.index.now (seek_window w (seek_of p.at)) docs.rising notes.rising p.at.base p.at.plus (table_in p.path t.var.0))))
 
   left_rows : left t ≡ bound_alone t.var rows
   left_rows =
@@ -72,10 +72,10 @@ module _ (w : Window) (t : Turn) (rows : List Row)
   pub started_cost : (u : Window) → IsUpTo w u → cost_left u t ≡ seek_cost t.search.index.now u p t.order.now (seek_of p.at) (Some t.var)
   started_cost u k =
       ap (λ z. total (λ env. 1 + cost_at t.search.index.now u p t.order.now env) (filter (λ env. lies_in u (value p.at env)) z))
-        (left_rows ∙ ap (bound_alone t.var) all)
+      (left_rows ∙ ap (bound_alone t.var) all)
       ∙ ap (total (λ env. 1 + cost_at t.search.index.now u p t.order.now env)) (walked_narrow t.search.index.now w u p t.var k bounded e)
       ∙ total_map (λ env. 1 + cost_at t.search.index.now u p t.order.now env) (λ row. bind t.var row [])
-          (walked t.search.index.now u p (seek_of p.at) t.var)
+      (walked t.search.index.now u p (seek_of p.at) t.var)
 
   pub started_steps : (s taken : ℕ) (u : Window) → IsUpTo w u → taken ≤ s + 1
       → taken + cost_left u t ≤ s + (1 + seek_cost t.search.index.now u p t.order.now (seek_of p.at) (Some t.var))

@@ -66,7 +66,7 @@ module _ (entries : List Entry) (T : Tables) (p : Probe) (b : ℤ) where
   hits_first (x ∷ rs) env h i =
       asked_first (x ∷ rs) env (lookup 0 env) _ h
       (λ k j. over_first env (further p.path b env) (λ r row. hits_over entries T p b rs (bind r.var row env)) k
-          (λ r row m n. hits_first rs (bind r.var row env) m n) j) i
+      (λ r row m n. hits_first rs (bind r.var row env) m n) j) i
 
 -- a mark in the window
 in_mark : (w : Window) (o : Option ℤ) (b : ℤ) → o ≡ Some b → lies_in w o ≡ true → mark_in w o ≡ Some b
@@ -147,18 +147,18 @@ module _ (T : Tables) (u : Window) (p : Probe) (order : List Reach) where
   pub cost_part : (due : DrivingRow) (envs : List Env) → value p.at due.env ≡ Some due.mark → lies_in u (Some due.mark) ≡ true
       → total (λ env. 1 + cost_at T u p order env) (filter (λ env. lies_in u (value p.at env)) (due.env ∷ envs))
       ≡ (1 + work_over T p due.mark false order due.env)
-        + total (λ env. 1 + cost_at T u p order env) (filter (λ env. lies_in u (value p.at env)) envs)
+      + total (λ env. 1 + cost_at T u p order env) (filter (λ env. lies_in u (value p.at env)) envs)
   cost_part due envs e l =
       let k : lies_in u (value p.at due.env) ≡ true = ap (lies_in u) e ∙ l in
       let c : cost_at T u p order due.env ≡ work_over T p due.mark false order due.env =
-          ap (marked_cost T u p order due.env) (in_mark u (value p.at due.env) due.mark e k) in
+      ap (marked_cost T u p order due.env) (in_mark u (value p.at due.env) due.mark e k) in
       rw (k, c) refl
 
 -- the least mark of what is found beside the row that was read ahead
 pub found_mark : (t : Turn) (due : DrivingRow) → t.next ≡ Some due → has_hit (due_hits t (Some due)) ≡ true
     → Some due.mark ≡ least_mark (due_hits t t.next)
 found_mark t due e h = sym (ap (λ o. least_mark (due_hits t o)) e ∙ go (due_hits t (Some due)) h (λ k i.
-      hits_first t.search.seen.now t.search.index.now (searched t.search) due.mark t.order.now due.env k i))
+    hits_first t.search.seen.now t.search.index.now (searched t.search) due.mark t.order.now due.env k i))
   where
     go : (hs : List Hit) → has_hit hs ≡ true → ((k : Hit) → In k hs → k.first ≡ due.mark) → least_mark hs ≡ Some due.mark
     go [] h f = absurd (false≢true h)
@@ -195,7 +195,7 @@ module _ (w : Window) (t : Turn) (h : IsTurn w t) (due : DrivingRow) (e : t.next
       ∙ hits_part t.search.seen.now t.search.index.now w (searched t.search) t.order.now due others ahead_is rising_is
       ∙ ap (λ o. due_hits t o ++ flat_map (hits_at t.search.seen.now t.search.index.now w (searched t.search) t.order.now) others) (sym e)
       ∙ ap (λ z. due_hits t t.next ++ flat_map (hits_at t.search.seen.now t.search.index.now w (searched t.search) t.order.now) z)
-          (sym gone_left)
+      (sym gone_left)
 
   pub gone_hits : least_mark (due_hits t t.next) ≡ None → hits_left w t ≡ hits_left w (passed w t)
   gone_hits n = hits_split ∙ ap (λ z. z ++ hits_left w (passed w t)) (no_mark (due_hits t t.next) n)
@@ -211,12 +211,12 @@ module _ (w : Window) (t : Turn) (h : IsTurn w t) (due : DrivingRow) (e : t.next
   pub gone_cost : (u : Window) → lies_in u (Some due.mark) ≡ true → cost_left u t ≡ (1 + due_cost t t.next) + cost_left u (passed w t)
   gone_cost u l =
       ap (λ z. total (λ env. 1 + cost_at t.search.index.now u (searched t.search) t.order.now env)
-          (filter (λ env. lies_in u (value t.search.probe.now.at env)) z)) left_is
+      (filter (λ env. lies_in u (value t.search.probe.now.at env)) z)) left_is
       ∙ cost_part t.search.index.now u (searched t.search) t.order.now due others ahead_is l
       ∙ ap (λ o. (1 + due_cost t o) + total (λ env. 1 + cost_at t.search.index.now u (searched t.search) t.order.now env)
-            (filter (λ env. lies_in u (value t.search.probe.now.at env)) others)) (sym e)
+      (filter (λ env. lies_in u (value t.search.probe.now.at env)) others)) (sym e)
       ∙ ap (λ z. (1 + due_cost t t.next) + total (λ env. 1 + cost_at t.search.index.now u (searched t.search) t.order.now env)
-            (filter (λ env. lies_in u (value t.search.probe.now.at env)) z)) (sym gone_left)
+      (filter (λ env. lies_in u (value t.search.probe.now.at env)) z)) (sym gone_left)
 
   pub gone_length : length (left t) ≡ 1 + length (left (passed w t))
   gone_length = ap length left_is ∙ one (length others) (length (left (passed w t))) (ap length (sym gone_left))
@@ -230,7 +230,7 @@ module _ (w : Window) (t : Turn) (h : IsTurn w t) (due : DrivingRow) (e : t.next
       let m = mark_least (due_hits t t.next) b n in
       let k = m.0 in
       let f : k.0.first ≡ due.mark = hits_first t.search.seen.now t.search.index.now (searched t.search)
-          due.mark t.order.now due.env k.0 (subst (λ o. In k.0 (due_hits t o)) e k.1) in
+      due.mark t.order.now due.env k.0 (subst (λ o. In k.0 (due_hits t o)) e k.1) in
       (k.0, subst (λ z. In k.0 z) (sym hits_split) (in_left (due_hits t t.next) (hits_left w (passed w t)) k.0 k.1), k.2, sym k.2 ∙ f)
 
 -- no hit has a lesser mark than the turn's row ahead
@@ -248,5 +248,5 @@ turn_over w t h e = go t.next refl e
     go None q e =
         let r : t.rows ≡ [] = subst (λ o. IsAhead (searched t.search) o t.rows) q h.ahead in
         ap (λ o. flat_map (hits_at t.search.seen.now t.search.index.now w (searched t.search) t.order.now)
-            (due_envs o ++ bound_alone t.var t.rows)) q
+        (due_envs o ++ bound_alone t.var t.rows)) q
         ∙ ap (λ z. flat_map (hits_at t.search.seen.now t.search.index.now w (searched t.search) t.order.now) (bound_alone t.var z)) r

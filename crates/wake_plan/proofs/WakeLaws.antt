@@ -61,7 +61,7 @@ module _ (q : RangedQuery) (ps : HasValidProbes q) (entries : List Entry) (T : T
     wake_steps s mid taken starts goes =
         subst (λ u. taken ≤ s + (length q.parts + query_cost T u q)) window_same
         (onward (starts (wake_window last (query_hits entries T whole q)) up_to)
-          (subst (λ z. taken ≤ mid + total (cost_left (wake_window last z)) turns) hits goes))
+        (subst (λ z. taken ≤ mid + total (cost_left (wake_window last z)) turns) hits goes))
       where
         onward : {a b c : ℕ} → b ≤ c → a ≤ b → a ≤ c
         onward h k = omega (arith, h, k)

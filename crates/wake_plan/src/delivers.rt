@@ -28,7 +28,7 @@ fn delivers_pair<'a, L: Ledger>(
     requires sure { IsSure search.now.index.now search.now.probe.now.path mark
         order.now env.now sure }
     ensures hits { result ≡ has_hit (option_to_list (hit_if
-            (holds_here search.now.index.now (searched search.now) mark order.now env.now) mark
+        (holds_here search.now.index.now (searched search.now) mark order.now env.now) mark
         (new_doc search.now.seen.now doc.now))) }
     ensures steps { steps.new ≤ steps.old
         + cost_here search.now.index.now (searched search.now) mark sure order.now env.now }
@@ -56,7 +56,7 @@ pub(crate) fn delivers<'a, L: Ledger>(
     requires sure { IsSure search.now.index.now search.now.probe.now.path mark
         order.now env.now sure }
     ensures hits { result ≡ has_hit (hits_over search.now.seen.now search.now.index.now
-          (searched search.now) mark order.now env.now) }
+        (searched search.now) mark order.now env.now) }
     ensures steps { steps.new ≤ steps.old
         + work_over search.now.index.now (searched search.now) mark sure order.now env.now }
     ensures more { steps.old ≤ steps.new }

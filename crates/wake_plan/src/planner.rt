@@ -86,14 +86,14 @@ pub fn wake<L: Ledger>(
     requires probes { HasValidProbes plan.now.query }
     ensures moment { IfOk result (λ moment. moment ≡ next_wake now
         (meaning_without (was_seen seen.now) (ranged_probes plan.now.query)
-            index.now (record { low = last; high = pos 250000000000 }))) }
+        index.now (record { low = last; high = pos 250000000000 }))) }
     ensures steps { steps.new ≤ steps.old + (length plan.now.query.parts
         + query_cost index.now
-            (wake_window last (hits_ahead seen.now plan.now.query index.now last)) plan.now.query) }
+        (wake_window last (hits_ahead seen.now plan.now.query index.now last)) plan.now.query) }
     ensures plain { ((p : Probe) → In p (ranged_probes plan.now.query) → IsPlain p)
         → steps.new ≤ steps.old
         + marked_ahead index.now (wake_window last
-              (hits_ahead seen.now plan.now.query index.now last)) (ranged_probes plan.now.query) }
+        (hits_ahead seen.now plan.now.query index.now last)) (ranged_probes plan.now.query) }
 {
     let w = Window {
         low: last,

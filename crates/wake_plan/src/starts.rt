@@ -32,10 +32,10 @@ fn fixed<'a>(search: Search<'a>, order: &'a [Reach], w: Window) -> Turn<'a>
     ensures turn { IsTurn w result }
     ensures hits { hits_left w result
         ≡ seek_hits search.entry.seen.now search.entry.index.now w (searched search.entry)
-            order.now (seek_of search.entry.probe.now.at) None }
+        order.now (seek_of search.entry.probe.now.at) None }
     ensures cost { (u : Window) → IsUpTo w u → cost_left u result
         ≤ 1 + seek_cost search.entry.index.now u (searched search.entry)
-            order.now (seek_of search.entry.probe.now.at) None }
+        order.now (seek_of search.entry.probe.now.at) None }
 {
     let env = Env::new();
     let next = match mark_at(&search, w, &env) {
@@ -70,7 +70,7 @@ fn driven<'a, L: Ledger>(
         (searched search.entry) order.now seek (Some var) }
     ensures cost { (u : Window) → IsUpTo w u → steps.new + cost_left u result
         ≤ steps.old + (1 + seek_cost search.entry.index.now u (searched search.entry) order.now seek
-              (Some var)) }
+        (Some var)) }
     ensures more { steps.old ≤ steps.new }
 {
     // Brings into scope that arrivals never fall.
@@ -105,7 +105,7 @@ fn start<'a, L: Ledger>(
         (searched search.entry) order.now seek (seek_var seek) }
     ensures cost { (u : Window) → IsUpTo w u → steps.new + cost_left u result
         ≤ steps.old + (1 + seek_cost search.entry.index.now u (searched search.entry) order.now seek
-              (seek_var seek)) }
+        (seek_var seek)) }
     ensures more { steps.old ≤ steps.new }
 {
     match seek_var(seek) {

@@ -12,7 +12,7 @@ returns-in-None c =
     let v = c.args.var in
     let t = c.args.table in
     let same = ap (λ x. near_access (is_other v) v t (guards_of x)) c.behind_times.ensures.condition
-        ∙ same_behind (is_other v) v t (tree_at c.args.pool.now c.args.id.0) in
+    ∙ same_behind (is_other v) v t (tree_at c.args.pool.now c.args.id.0) in
     c.whole.ensures ∙ ap (λ o. unwrap_or o (whole t)) (sym (ap option_access c.in-None.is) ∙ (c.inner_index.ensures ∙ same))
 
 pub returns-in-Some : goal.returns-in-Some
@@ -20,5 +20,5 @@ returns-in-Some c =
     let v = c.args.var in
     let t = c.args.table in
     let same = ap (λ x. near_access (is_other v) v t (guards_of x)) c.behind_times.ensures.condition
-        ∙ same_behind (is_other v) v t (tree_at c.args.pool.now c.args.id.0) in
+    ∙ same_behind (is_other v) v t (tree_at c.args.pool.now c.args.id.0) in
     ap (λ o. unwrap_or o (whole t)) (sym (ap option_access c.in-Some.is) ∙ (c.inner_index.ensures ∙ same))

@@ -10,13 +10,13 @@ pub returns-in-Ok-try_get_matches_from-clause-store : goal.returns-in-Ok-try_get
 returns-in-Ok-try_get_matches_from-clause-store c =
     let m = c.in-Ok-try_get_matches_from.ensures.matches (ap is_simple c.in-Ok.ensures ∙ is_simple_app) in
     c.get_str.ensures ∙ first_row (found_of c.in-Ok-try_get_matches_from.matches) (codes "store")
-        ∙ ap (first_of (codes "store")) (m.0 ∙ ap (λ (a : App). matches_of a (word_bytes c.args.words.now)) c.in-Ok.ensures)
+    ∙ ap (first_of (codes "store")) (m.0 ∙ ap (λ (a : App). matches_of a (word_bytes c.args.words.now)) c.in-Ok.ensures)
 
 pub returns-in-Ok-try_get_matches_from-clause-sample : goal.returns-in-Ok-try_get_matches_from-clause-sample
 returns-in-Ok-try_get_matches_from-clause-sample c =
     let m = c.in-Ok-try_get_matches_from.ensures.matches (ap is_simple c.in-Ok.ensures ∙ is_simple_app) in
     c.get_str-in-Ok-try_get_matches_from.ensures ∙ first_row (found_of c.in-Ok-try_get_matches_from.matches) (codes "sample")
-        ∙ ap (first_of (codes "sample")) (m.0 ∙ ap (λ (a : App). matches_of a (word_bytes c.args.words.now)) c.in-Ok.ensures)
+    ∙ ap (first_of (codes "sample")) (m.0 ∙ ap (λ (a : App). matches_of a (word_bytes c.args.words.now)) c.in-Ok.ensures)
 
 pub returns-in-Ok-try_get_matches_from-clause-accepted : goal.returns-in-Ok-try_get_matches_from-clause-accepted
 returns-in-Ok-try_get_matches_from-clause-accepted c =

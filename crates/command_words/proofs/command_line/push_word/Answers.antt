@@ -8,4 +8,4 @@ pub returns : goal.returns
 returns c =
     let text = subst IsUtf8 (sym c.in_ok-from_slice.ensures) c.as_bytes.ensures.utf8 in
     subst (λ (words : List (List ℕ)). All IsUtf8 words) (sym c.in_ok-push.ensures.ok)
-        (All-push IsUtf8 c.args.words.now c.in_ok-from_slice.field-0 c.requires text)
+    (All-push IsUtf8 c.args.words.now c.in_ok-from_slice.field-0 c.requires text)

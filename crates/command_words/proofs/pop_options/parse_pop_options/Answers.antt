@@ -10,25 +10,25 @@ pub returns-in-Ok-try_get_matches_from-clause-store : goal.returns-in-Ok-try_get
 returns-in-Ok-try_get_matches_from-clause-store c =
     let m = c.in-Ok-try_get_matches_from.ensures.matches (ap is_simple c.in-Ok.ensures ∙ is_simple_pop) in
     c.get_str.ensures ∙ first_row (found_of c.in-Ok-try_get_matches_from.matches) (codes "store")
-        ∙ ap (first_of (codes "store")) (m.0 ∙ ap (λ (a : App). matches_of a (word_bytes c.args.words.now)) c.in-Ok.ensures)
+    ∙ ap (first_of (codes "store")) (m.0 ∙ ap (λ (a : App). matches_of a (word_bytes c.args.words.now)) c.in-Ok.ensures)
 
 pub returns-in-Ok-try_get_matches_from-clause-user : goal.returns-in-Ok-try_get_matches_from-clause-user
 returns-in-Ok-try_get_matches_from-clause-user c =
     let m = c.in-Ok-try_get_matches_from.ensures.matches (ap is_simple c.in-Ok.ensures ∙ is_simple_pop) in
     c.get_str-in-Ok-try_get_matches_from.ensures ∙ first_row (found_of c.in-Ok-try_get_matches_from.matches) (codes "user")
-        ∙ ap (first_of (codes "user")) (m.0 ∙ ap (λ (a : App). matches_of a (word_bytes c.args.words.now)) c.in-Ok.ensures)
+    ∙ ap (first_of (codes "user")) (m.0 ∙ ap (λ (a : App). matches_of a (word_bytes c.args.words.now)) c.in-Ok.ensures)
 
 pub returns-in-Ok-try_get_matches_from-clause-name : goal.returns-in-Ok-try_get_matches_from-clause-name
 returns-in-Ok-try_get_matches_from-clause-name c =
     let m = c.in-Ok-try_get_matches_from.ensures.matches (ap is_simple c.in-Ok.ensures ∙ is_simple_pop) in
     c.get_str-in-Ok-try_get_matches_from-2.ensures ∙ first_row (found_of c.in-Ok-try_get_matches_from.matches) (codes "box")
-        ∙ ap (first_of (codes "box")) (m.0 ∙ ap (λ (a : App). matches_of a (word_bytes c.args.words.now)) c.in-Ok.ensures)
+    ∙ ap (first_of (codes "box")) (m.0 ∙ ap (λ (a : App). matches_of a (word_bytes c.args.words.now)) c.in-Ok.ensures)
 
 pub returns-in-Ok-try_get_matches_from-clause-secret : goal.returns-in-Ok-try_get_matches_from-clause-secret
 returns-in-Ok-try_get_matches_from-clause-secret c =
     let m = c.in-Ok-try_get_matches_from.ensures.matches (ap is_simple c.in-Ok.ensures ∙ is_simple_pop) in
     c.get_str-in-Ok-try_get_matches_from-3.ensures ∙ first_row (found_of c.in-Ok-try_get_matches_from.matches) (codes "pass")
-        ∙ ap (first_of (codes "pass")) (m.0 ∙ ap (λ (a : App). matches_of a (word_bytes c.args.words.now)) c.in-Ok.ensures)
+    ∙ ap (first_of (codes "pass")) (m.0 ∙ ap (λ (a : App). matches_of a (word_bytes c.args.words.now)) c.in-Ok.ensures)
 
 pub returns-in-Ok-try_get_matches_from-clause-accepted : goal.returns-in-Ok-try_get_matches_from-clause-accepted
 returns-in-Ok-try_get_matches_from-clause-accepted c =

@@ -10,7 +10,7 @@ pub returns : goal.returns
 returns c =
     let store_is : rule_of c.default_value-store.result ≡ store_rule = search rules in
     let bare_is : app_of c.no_binary_name.result ≡ bare_pop_app = ap app_of_fields c.no_binary_name.ensures
-        ∙ ap (λ (a : App). record a { top = record a.top { no_binary_name = true } }) c.new-2.ensures.app in
+    ∙ ap (λ (a : App). record a { top = record a.top { no_binary_name = true } }) c.new-2.ensures.app in
     let one = c.in_ok-arg.ensures.shape (search rules) ∙ ap₂ with_rule bare_is store_is in
     let two = c.in_ok-arg-2.ensures.shape (search rules) ∙ ap₂ with_rule one c.required.ensures.rule in
     let three = c.in_ok-arg-3.ensures.shape (search rules) ∙ ap₂ with_rule two c.required-2.ensures.rule in

@@ -8,4 +8,4 @@ pub as_str-requires : goal.as_str-requires
 as_str-requires c =
     let all = subst (λ (texts : List (List ℕ)). All IsUtf8 texts) (sym c.as_slice-text-items.ensures) c.requires in
     subst IsUtf8 (sym c.text-item.is)
-      (All-get_or IsUtf8 c.as_slice-text-items.result.now c.loop-text.text-index c.text-item.result (omega arith) all)
+    (All-get_or IsUtf8 c.as_slice-text-items.result.now c.loop-text.text-index c.text-item.result (omega arith) all)

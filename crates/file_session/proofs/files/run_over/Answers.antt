@@ -8,9 +8,9 @@ returns-clause-ends_over g c t honest told =
     let files = g.O.Opener.files in
     let now = c.hold-status.new.keeper.inner in
     subst (λ inner. g.C.StoreProgram.ends_over c.args.words.now c.hold-status.result (g.I.Peer.left c.args.source.now)
-      (g.I.Peer.left c.hold-status.new.source)
+    (g.I.Peer.left c.hold-status.new.source)
     (g.K.Sink.out c.args.sink.now) (g.K.Sink.out c.hold-status.new.sink) (g.I.Peer.was_asked c.args.source.now)
-      (g.I.Peer.was_asked c.hold-status.new.source)
+    (g.I.Peer.was_asked c.hold-status.new.source)
     t (HasVersion files g.A.Store inner) (HasVersion files g.A.Store now) (Tells files g.A.Store now) (MayLeave files g.A.Store now))
     c.new-keeper.ensures.unopened (c.hold-status.ensures.ends_over t honest (c.new-keeper.ensures.told c.requires.clean t told))
 

@@ -29,7 +29,7 @@ returns-in-Some-clause-end g c =
       stopped = end.stopped;
       close = subst (λ i. IsClosedAs (path_files g.S.Start) i (Some c.close.result)) (at_some _ _ _ c.in-Some.is end.left.0)
           (closed-so _ _ c.close.result c.close.ensures.none c.close.ensures.honest c.close.ensures.honest_left c.close.ensures.whole
-            c.close.ensures.exact c.close.ensures.fails);
+          c.close.ensures.exact c.close.ensures.fails);
       back = end.left.1;
     }
 
@@ -70,7 +70,7 @@ pub returns-else-status-eq6-clause-end : goal.returns-else-status-eq6-clause-end
 returns-else-status-eq6-clause-end g c =
     let end = c.run_apart-status.ensures.end in
     let there = other_one _ _ _ false c.in-None.is refl (c.run_apart-status.ensures.one c.if-status-eq6.false.0 c.if-status-eq6.false.1) in
-        record {
+    record {
       inner = end.inner;
       ends = λ honest t told. end.ends honest t told;
       stopped = end.stopped;

@@ -17,10 +17,10 @@ returns-in-Ok-clause-survives g c =
     let began = c.transaction-tx.ensures.begun in
     let P = IsAfter c.args.change.now (state g.S.Store old) in
     let added = λ (clean : HasCleanDisk (state g.S.Store end)).
-        (rw began at (c.in_default.ensures.ok (omega (arith, c.commit.ensures.survives.clean)))) refl in
+    (rw began at (c.in_default.ensures.ok (omega (arith, c.commit.ensures.survives.clean)))) refl in
     let whole = survives_then (state g.S.Store old) (state g.S.Store mid) (state g.S.Store end) _ _ P (λ _ db none. absurd none)
     (λ clean db is. record { read = c.in_default.ensures.read; db = (state g.S.Store mid).now; puts = (added clean).puts; is = is })
-      (survives_begin g.S.Store old (state g.S.Store mid) _ (rw began at c.insert_change.ensures.survives)) c.commit.ensures.survives in
+    (survives_begin g.S.Store old (state g.S.Store mid) _ (rw began at c.insert_change.ensures.survives)) c.commit.ensures.survives in
     let same : end ≡ c.conn-2-1.given.0 = search rules in
     subst (λ h. Survives (state g.S.Store old) (state g.S.Store h) P) same whole
 
@@ -32,10 +32,10 @@ returns-in-Err-commit-clause-survives g c =
     let began = c.transaction-tx.ensures.begun in
     let P = IsAfter c.args.change.now (state g.S.Store old) in
     let added = λ (clean : HasCleanDisk (state g.S.Store end)).
-        (rw began at (c.in_default.ensures.ok (omega (arith, c.commit.ensures.survives.clean)))) refl in
+    (rw began at (c.in_default.ensures.ok (omega (arith, c.commit.ensures.survives.clean)))) refl in
     let whole = survives_then (state g.S.Store old) (state g.S.Store mid) (state g.S.Store end) _ _ P (λ _ db none. absurd none)
     (λ clean db is. record { read = c.in_default.ensures.read; db = (state g.S.Store mid).now; puts = (added clean).puts; is = is })
-      (survives_begin g.S.Store old (state g.S.Store mid) _ (rw began at c.insert_change.ensures.survives)) c.commit.ensures.survives in
+    (survives_begin g.S.Store old (state g.S.Store mid) _ (rw began at c.insert_change.ensures.survives)) c.commit.ensures.survives in
     let same : end ≡ c.conn-2-1.given.0 = search rules in
     subst (λ h. Survives (state g.S.Store old) (state g.S.Store h) P) same whole
 
@@ -66,7 +66,7 @@ returns-in-Err-commit-clause-fails g c =
     let early : HasCleanDisk (state g.S.Store mid) = omega (arith, c.commit.ensures.survives.clean) in
     let reached : GoesOn g.S.Store (begun old) mid =
     reaches_rows g.S.Store (added_rows c.args.change.now) (begun old) mid (rw began at c.insert_change.ensures.survives)
-      ((rw began at (c.in_default.ensures.ok early)) refl) in
+    ((rw began at (c.in_default.ensures.ok early)) refl) in
     inr (mid, reached, c.in-Err-commit.ensures.err clean) in
     let same : end ≡ c.conn-2-1.given.0 = search rules in
     subst (λ h. HasCleanDisk (state g.S.Store h) → FailsWhole g.S.Store old h How c.in-Err-commit.error) same whole

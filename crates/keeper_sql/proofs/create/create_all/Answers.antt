@@ -15,6 +15,6 @@ returns-clause-fails g c clean inside =
     let mid0 = c.create_six.new.tx.conn.now in
     let early0 : HasCleanDisk (state g.S.Store mid0) = omega (arith, c.create_filters.ensures.survives.clean) in
     let reach0 = reaches_made g.S.Store schema_prefix_0 0 schema_prefix_6 6 old mid0
-        c.create_six.ensures.survives (c.in_default.ensures.ok early0 inside) in
+    c.create_six.ensures.survives (c.in_default.ensures.ok early0 inside) in
     step_fails g.S.Store (FailsToWrite create_filters []) (FailsAmong create_texts) old mid0 c.create_filters.new.tx.conn.now
-      c.create_filters.result reach0 (λ e h. (create_filters, (6, omega arith, refl), h)) clean c.create_filters.ensures.fails
+    c.create_filters.result reach0 (λ e h. (create_filters, (6, omega arith, refl), h)) clean c.create_filters.ensures.fails

@@ -15,7 +15,7 @@ returns-in-Err-create_notes-clause-fails g c clean inside =
     let mid0 = c.create_two.new.tx.conn.now in
     let early0 : HasCleanDisk (state g.S.Store mid0) = omega (arith, c.create_notes.ensures.survives.clean) in
     let reach0 = reaches_made g.S.Store schema_prefix_0 0 schema_prefix_2 2 old mid0
-        c.create_two.ensures.survives (c.in_default.ensures.ok early0 inside) in
+    c.create_two.ensures.survives (c.in_default.ensures.ok early0 inside) in
     (mid0, reach0, (create_notes, (2, omega arith, refl), c.in-Err-create_notes.ensures.fails clean reach0.mode))
 
 pub returns-clause-fails : goal.returns-clause-fails
@@ -26,8 +26,8 @@ returns-clause-fails g c clean inside =
     let early1 : HasCleanDisk (state g.S.Store mid1) = omega (arith, c.create_queries.ensures.survives.clean) in
     let early0 : HasCleanDisk (state g.S.Store mid0) = omega (arith, early1, c.create_notes.ensures.survives.clean) in
     let reach0 = reaches_made g.S.Store schema_prefix_0 0 schema_prefix_2 2 old mid0
-        c.create_two.ensures.survives (c.in_default.ensures.ok early0 inside) in
+    c.create_two.ensures.survives (c.in_default.ensures.ok early0 inside) in
     let reach1 = reaches_then g.S.Store old mid0 mid1 reach0 (reaches_made g.S.Store schema_prefix_2 2 schema_prefix_3 3 mid0 mid1
-          c.create_notes.ensures.survives (c.in_default-create_notes.ensures.ok early1 reach0.mode)) in
+    c.create_notes.ensures.survives (c.in_default-create_notes.ensures.ok early1 reach0.mode)) in
     step_fails g.S.Store (FailsToWrite create_queries []) (FailsAmong create_texts) old mid1 c.create_queries.new.tx.conn.now
-      c.create_queries.result reach1 (λ e h. (create_queries, (3, omega arith, refl), h)) clean c.create_queries.ensures.fails
+    c.create_queries.result reach1 (λ e h. (create_queries, (3, omega arith, refl), h)) clean c.create_queries.ensures.fails

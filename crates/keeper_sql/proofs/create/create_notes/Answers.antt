@@ -8,4 +8,4 @@ returns-in-Ok-clause-ok g c clean inside =
     let old = state g.S.Store c.args.tx.now.conn.now in
     let new = state g.S.Store c.execute.new.self.conn.now in
     makes_by schema_prefix_2 2 schema_prefix_3 3 old new create_notes c.in-Ok.field-0 (c.in-Ok.ensures.runs clean inside)
-      (λ was ran. makes_notes old new c.in-Ok.field-0 was ran) (λ has ran. keeps_notes old new c.in-Ok.field-0 has ran)
+    (λ was ran. makes_notes old new c.in-Ok.field-0 was ran) (λ has ran. keeps_notes old new c.in-Ok.field-0 has ran)

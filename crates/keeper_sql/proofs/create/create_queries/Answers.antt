@@ -8,4 +8,4 @@ returns-in-Ok-clause-ok g c clean inside =
     let old = state g.S.Store c.args.tx.now.conn.now in
     let new = state g.S.Store c.execute.new.self.conn.now in
     makes_by schema_prefix_3 3 schema_prefix_4 4 old new create_queries c.in-Ok.field-0 (c.in-Ok.ensures.runs clean inside)
-      (λ was ran. makes_queries old new c.in-Ok.field-0 was ran) (λ has ran. keeps_queries old new c.in-Ok.field-0 has ran)
+    (λ was ran. makes_queries old new c.in-Ok.field-0 was ran) (λ has ran. keeps_queries old new c.in-Ok.field-0 has ran)

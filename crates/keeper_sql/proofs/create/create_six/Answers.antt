@@ -15,7 +15,7 @@ returns-in-Err-create_runs-clause-fails g c clean inside =
     let mid0 = c.create_four.new.tx.conn.now in
     let early0 : HasCleanDisk (state g.S.Store mid0) = omega (arith, c.create_runs.ensures.survives.clean) in
     let reach0 = reaches_made g.S.Store schema_prefix_0 0 schema_prefix_4 4 old mid0
-        c.create_four.ensures.survives (c.in_default.ensures.ok early0 inside) in
+    c.create_four.ensures.survives (c.in_default.ensures.ok early0 inside) in
     (mid0, reach0, (create_runs, (4, omega arith, refl), c.in-Err-create_runs.ensures.fails clean reach0.mode))
 
 pub returns-clause-fails : goal.returns-clause-fails
@@ -26,8 +26,8 @@ returns-clause-fails g c clean inside =
     let early1 : HasCleanDisk (state g.S.Store mid1) = omega (arith, c.create_picks.ensures.survives.clean) in
     let early0 : HasCleanDisk (state g.S.Store mid0) = omega (arith, early1, c.create_runs.ensures.survives.clean) in
     let reach0 = reaches_made g.S.Store schema_prefix_0 0 schema_prefix_4 4 old mid0
-        c.create_four.ensures.survives (c.in_default.ensures.ok early0 inside) in
+    c.create_four.ensures.survives (c.in_default.ensures.ok early0 inside) in
     let reach1 = reaches_then g.S.Store old mid0 mid1 reach0 (reaches_made g.S.Store schema_prefix_4 4 schema_prefix_5 5 mid0 mid1
-          c.create_runs.ensures.survives (c.in_default-create_runs.ensures.ok early1 reach0.mode)) in
+    c.create_runs.ensures.survives (c.in_default-create_runs.ensures.ok early1 reach0.mode)) in
     step_fails g.S.Store (FailsToWrite create_picks []) (FailsAmong create_texts) old mid1 c.create_picks.new.tx.conn.now
-      c.create_picks.result reach1 (λ e h. (create_picks, (5, omega arith, refl), h)) clean c.create_picks.ensures.fails
+    c.create_picks.result reach1 (λ e h. (create_picks, (5, omega arith, refl), h)) clean c.create_picks.ensures.fails

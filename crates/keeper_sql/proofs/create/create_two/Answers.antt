@@ -11,7 +11,7 @@ returns-in-Err-clause-fails g c clean inside =
     let old = c.args.tx.now.conn.now in
     let new = c.create_meta.new.tx.conn.now in
     at_once g.S.Store (FailsAmong create_texts) old new c.in-Err.error inside
-      (create_meta, (0, omega arith, refl), c.in-Err.ensures.fails clean inside)
+    (create_meta, (0, omega arith, refl), c.in-Err.ensures.fails clean inside)
 
 pub returns-clause-fails : goal.returns-clause-fails
 returns-clause-fails g c clean inside =
@@ -19,6 +19,6 @@ returns-clause-fails g c clean inside =
     let mid0 = c.create_meta.new.tx.conn.now in
     let early0 : HasCleanDisk (state g.S.Store mid0) = omega (arith, c.create_docs.ensures.survives.clean) in
     let reach0 = reaches_made g.S.Store schema_prefix_0 0 schema_prefix_1 1 old mid0
-        c.create_meta.ensures.survives (c.in_default.ensures.ok early0 inside) in
+    c.create_meta.ensures.survives (c.in_default.ensures.ok early0 inside) in
     step_fails g.S.Store (FailsToWrite create_docs []) (FailsAmong create_texts) old mid0 c.create_docs.new.tx.conn.now c.create_docs.result
-      reach0 (λ e h. (create_docs, (1, omega arith, refl), h)) clean c.create_docs.ensures.fails
+    reach0 (λ e h. (create_docs, (1, omega arith, refl), h)) clean c.create_docs.ensures.fails

@@ -12,8 +12,8 @@ returns-in-Ok-clause-ok g c clean inside =
     let old = state g.S.Store c.args.tx.now.conn.now in
     let new = state g.S.Store c.execute.new.self.conn.now in
     went_by _ old new insert_doc (given_doc c.args.doc.now)
-      c.in-Ok.field-0 (rw c.doc_values-values.ensures.given at (c.in-Ok.ensures.runs clean inside)) (λ has ran.
-      puts_doc old new _ _ _ c.in-Ok.field-0 has ran)
+    c.in-Ok.field-0 (rw c.doc_values-values.ensures.given at (c.in-Ok.ensures.runs clean inside)) (λ has ran.
+    puts_doc old new _ _ _ c.in-Ok.field-0 has ran)
 
 pub returns-in-Ok-clause-read : goal.returns-in-Ok-clause-read
 returns-in-Ok-clause-read g c = read_doc c.args.doc.now c.doc_values-values.ensures.range
@@ -23,4 +23,4 @@ returns-in-Err-clause-fails g c clean inside =
     let old = state g.S.Store c.args.tx.now.conn.now in
     let new = state g.S.Store c.execute.new.self.conn.now in
     fails_by old new insert_doc _ (given_doc c.args.doc.now)
-      c.in-Err.error c.doc_values-values.ensures.given (c.in-Err.ensures.runs clean inside)
+    c.in-Err.error c.doc_values-values.ensures.given (c.in-Err.ensures.runs clean inside)

@@ -18,21 +18,20 @@ adds-preserved g c =
     let mid = state g.S.Store c.adds.tx.conn.now in
     let new = state g.S.Store c.insert_doc.new.tx.conn.now in
     let survives : Survives old new (λ _. ⊥) =
-        survives_then old mid new _ _ _ (λ _ db none. none) (λ _ db none. none) c.adds.invariant.1 c.insert_doc.ensures.survives in
+    survives_then old mid new _ _ _ (λ _ db none. none) (λ _ db none. none) c.adds.invariant.1 c.insert_doc.ensures.survives in
     let f : Doc → Row = λ x. as_kept (given_doc x) in
     let first : List Doc = take c.adds.doc-index c.args.docs.now in
     let item : Doc = c.doc-item.result in
     let more : take (c.adds.doc-index + 1) c.args.docs.now ≡ first ++ item ∷ [] = grind (arith, common_steps) in
     let rows : map f (take (c.adds.doc-index + 1) c.args.docs.now) ≡ map f first ++ f item ∷ [] = ap (map f) more
-        ∙ map-append f first (item ∷ []) in
-        (
+    ∙ map-append f first (item ∷ []) in (
       c.insert_doc.ensures.same_reference ∙ c.adds.invariant.0,
       survives,
       λ clean inside.
           let early : HasCleanDisk mid = omega (arith, c.insert_doc.ensures.survives.clean) in
           let was = c.adds.invariant.2 early inside in
           went_then (only 1 (map f first)) (only 1 (f item ∷ [])) _ old mid new (only_both 1 (map f first) (f item ∷ []) _ rows) was
-            (c.in_default.ensures.ok clean was.mode),
+          (c.in_default.ensures.ok clean was.mode),
       read_more doc_in f first item _ _ rows more c.adds.invariant.3 c.in_default.ensures.read,
     )
 

@@ -12,5 +12,5 @@ invariant-adds g l =
     let now = state g.S.Store l.tx.conn.now in
     (l.tx.conn.ghost_name ≡ l.fn.tx.conn.ghost_name) × Survives old now (λ _. ⊥)
     × (HasCleanDisk now → IsTrue old.in_transaction
-        → RowsWritten (only 1 (map (λ x. as_kept (given_doc x)) (take l.doc-index l.docs))) old now)
+    → RowsWritten (only 1 (map (λ x. as_kept (given_doc x)) (take l.doc-index l.docs))) old now)
     × (map doc_in (map (λ x. as_kept (given_doc x)) (take l.doc-index l.docs)) ≡ take l.doc-index l.docs)

@@ -18,15 +18,15 @@ returns-in-Err-clause-err g c clean has = query_undone (state g.S.Store c.args.t
 pub returns-in-Ok-clause-same : goal.returns-in-Ok-clause-same
 returns-in-Ok-clause-same g c clean =
     always_ok c.read_rows.result (shown_rests select_filters (state g.S.Store c.args.tx.now.conn.now)
-        (state g.S.Store c.query_all.new.self.conn.now) _ filters_asks (c.in-Ok.ensures.ok clean))
+    (state g.S.Store c.query_all.new.self.conn.now) _ filters_asks (c.in-Ok.ensures.ok clean))
 
 pub returns-in-Ok-clause-read : goal.returns-in-Ok-clause-read
 returns-in-Ok-clause-read g c clean has =
     let old = state g.S.Store c.args.tx.now.conn.now in
     let new = state g.S.Store c.query_all.new.self.conn.now in
     IfOk-weaker c.read_rows.result _ _
-      (λ rows is keyed. is ∙ ap (map filter_shown) (filters_shown old new _ has keyed (c.in-Ok.ensures.ok clean))
-        ∙ map_twice filter_shown show_filter (old.now.trees 6)) c.read_rows.ensures.ok
+    (λ rows is keyed. is ∙ ap (map filter_shown) (filters_shown old new _ has keyed (c.in-Ok.ensures.ok clean))
+    ∙ map_twice filter_shown show_filter (old.now.trees 6)) c.read_rows.ensures.ok
 
 pub returns-in-Ok-clause-err : goal.returns-in-Ok-clause-err
 returns-in-Ok-clause-err g c clean has =
@@ -37,12 +37,12 @@ returns-in-Ok-clause-err g c clean has =
 pub returns-in-Err-clause-fails : goal.returns-in-Err-clause-fails
 returns-in-Err-clause-fails g c clean inside =
     let by : FailsToRead select_filters filter_kinds (state g.S.Store c.args.tx.now.conn.now)
-        (state g.S.Store c.query_all.new.self.conn.now) c.in-Err.error = inl (c.in-Err.ensures.err clean) in
-        by
+    (state g.S.Store c.query_all.new.self.conn.now) c.in-Err.error = inl (c.in-Err.ensures.err clean) in
+    by
 
 pub returns-in-Ok-clause-fails : goal.returns-in-Ok-clause-fails
 returns-in-Ok-clause-fails g c clean inside =
     let old = state g.S.Store c.args.tx.now.conn.now in
     let new = state g.S.Store c.query_all.new.self.conn.now in
     shown_fails select_filters filter_kinds old new c.in-Ok.shown.items c.read_rows.result (c.in-Ok.ensures.ok clean)
-      c.read_rows.ensures.fails
+    c.read_rows.ensures.fails

@@ -18,14 +18,14 @@ returns-in-Ok-clause-ok g c =
     let end = c.commit.new.self.0 in
     let began = c.transaction-tx.ensures.begun in
     let opened : HasCleanDisk (state g.S.Store end) → IsOurs (state g.S.Store old).now
-        → OpensAt (pos 2) (state g.S.Store (record old { in_transaction = true })) (state g.S.Store mid)
-        × (AreAllKeyed (state g.S.Store mid).now → c.in-Ok-Held.tables ≡ tables_in (state g.S.Store mid).now.trees) =
+    → OpensAt (pos 2) (state g.S.Store (record old { in_transaction = true })) (state g.S.Store mid)
+    × (AreAllKeyed (state g.S.Store mid).now → c.in-Ok-Held.tables ≡ tables_in (state g.S.Store mid).now.trees) =
     λ clean ours.
-      rw began at (subst (IsOpened (state g.S.Store c.transaction-tx.result.conn.now) (state g.S.Store mid)) c.in-Ok-Held.field-0-is
-        (c.in-Ok-Held.ensures.ok (omega (arith, c.commit.ensures.survives.clean)) (rw began refl) (rw began ours))) in
+    rw began at (subst (IsOpened (state g.S.Store c.transaction-tx.result.conn.now) (state g.S.Store mid)) c.in-Ok-Held.field-0-is
+    (c.in-Ok-Held.ensures.ok (omega (arith, c.commit.ensures.survives.clean)) (rw began refl) (rw began ours))) in
     let shows = λ (clean : HasCleanDisk (state g.S.Store end)). (c.in-Ok.ensures.ok clean).1 in
     let whole : HasCleanDisk (state g.S.Store end) → IsOurs (state g.S.Store old).now
-        → IsStored (state g.S.Store old) (state g.S.Store end) (Held c.in-Ok-Held.tables) =
+    → IsStored (state g.S.Store old) (state g.S.Store end) (Held c.in-Ok-Held.tables) =
     λ clean ours.
     let all = opened clean ours in
     let s = shows clean in (
@@ -37,7 +37,7 @@ returns-in-Ok-clause-ok g c =
     ) in
     let same : end ≡ c.conn-in-Ok-Held-1.given.0 = search rules in
     subst (λ h. HasCleanDisk (state g.S.Store h) → IsOurs (state g.S.Store old).now
-        → IsStored (state g.S.Store old) (state g.S.Store h) (Held c.in-Ok-Held.tables)) same whole
+    → IsStored (state g.S.Store old) (state g.S.Store h) (Held c.in-Ok-Held.tables)) same whole
 
 pub returns-in-Ok-clause-survives : goal.returns-in-Ok-clause-survives
 returns-in-Ok-clause-survives g c =
@@ -46,15 +46,15 @@ returns-in-Ok-clause-survives g c =
     let end = c.commit.new.self.0 in
     let began = c.transaction-tx.ensures.begun in
     let opened : HasCleanDisk (state g.S.Store end) → IsOurs (state g.S.Store old).now
-        → OpensAt (pos 2) (state g.S.Store (record old { in_transaction = true })) (state g.S.Store mid)
-        × (AreAllKeyed (state g.S.Store mid).now → c.in-Ok-Held.tables ≡ tables_in (state g.S.Store mid).now.trees) =
+    → OpensAt (pos 2) (state g.S.Store (record old { in_transaction = true })) (state g.S.Store mid)
+    × (AreAllKeyed (state g.S.Store mid).now → c.in-Ok-Held.tables ≡ tables_in (state g.S.Store mid).now.trees) =
     λ clean ours.
-      rw began at (subst (IsOpened (state g.S.Store c.transaction-tx.result.conn.now) (state g.S.Store mid)) c.in-Ok-Held.field-0-is
-        (c.in-Ok-Held.ensures.ok (omega (arith, c.commit.ensures.survives.clean)) (rw began refl) (rw began ours))) in
+    rw began at (subst (IsOpened (state g.S.Store c.transaction-tx.result.conn.now) (state g.S.Store mid)) c.in-Ok-Held.field-0-is
+    (c.in-Ok-Held.ensures.ok (omega (arith, c.commit.ensures.survives.clean)) (rw began refl) (rw began ours))) in
     let P = IsAfterOpen (state g.S.Store old) in
     let whole = survives_then (state g.S.Store old) (state g.S.Store mid) (state g.S.Store end) _ _ P (λ _ db none. absurd none)
     (λ clean db is. record { db = (state g.S.Store mid).now; to = λ ours. (opened clean ours).0.to; is = is })
-      (survives_begin g.S.Store old (state g.S.Store mid) _ (rw began at c.open_within.ensures.survives)) c.commit.ensures.survives in
+    (survives_begin g.S.Store old (state g.S.Store mid) _ (rw began at c.open_within.ensures.survives)) c.commit.ensures.survives in
     let same : end ≡ c.conn-in-Ok-Held-1.given.0 = search rules in
     subst (λ h. Survives (state g.S.Store old) (state g.S.Store h) P) same whole
 
@@ -65,15 +65,15 @@ returns-in-Err-commit-clause-survives g c =
     let end = c.commit.new.self.0 in
     let began = c.transaction-tx.ensures.begun in
     let opened : HasCleanDisk (state g.S.Store end) → IsOurs (state g.S.Store old).now
-        → OpensAt (pos 2) (state g.S.Store (record old { in_transaction = true })) (state g.S.Store mid)
-        × (AreAllKeyed (state g.S.Store mid).now → c.in-Ok-Held.tables ≡ tables_in (state g.S.Store mid).now.trees) =
+    → OpensAt (pos 2) (state g.S.Store (record old { in_transaction = true })) (state g.S.Store mid)
+    × (AreAllKeyed (state g.S.Store mid).now → c.in-Ok-Held.tables ≡ tables_in (state g.S.Store mid).now.trees) =
     λ clean ours.
-      rw began at (subst (IsOpened (state g.S.Store c.transaction-tx.result.conn.now) (state g.S.Store mid)) c.in-Ok-Held.field-0-is
-        (c.in-Ok-Held.ensures.ok (omega (arith, c.commit.ensures.survives.clean)) (rw began refl) (rw began ours))) in
+    rw began at (subst (IsOpened (state g.S.Store c.transaction-tx.result.conn.now) (state g.S.Store mid)) c.in-Ok-Held.field-0-is
+    (c.in-Ok-Held.ensures.ok (omega (arith, c.commit.ensures.survives.clean)) (rw began refl) (rw began ours))) in
     let P = IsAfterOpen (state g.S.Store old) in
     let whole = survives_then (state g.S.Store old) (state g.S.Store mid) (state g.S.Store end) _ _ P (λ _ db none. absurd none)
     (λ clean db is. record { db = (state g.S.Store mid).now; to = λ ours. (opened clean ours).0.to; is = is })
-      (survives_begin g.S.Store old (state g.S.Store mid) _ (rw began at c.open_within.ensures.survives)) c.commit.ensures.survives in
+    (survives_begin g.S.Store old (state g.S.Store mid) _ (rw began at c.open_within.ensures.survives)) c.commit.ensures.survives in
     let same : end ≡ c.conn-in-Ok-Held-1.given.0 = search rules in
     subst (λ h. Survives (state g.S.Store old) (state g.S.Store h) P) same whole
 
@@ -84,7 +84,7 @@ returns-in-Ok-Alien-clause-ok g c clean ours =
     let began = c.transaction-tx.ensures.begun in
     let early : HasCleanDisk (state g.S.Store mid) = search rules in
     let opened = rw began at (subst (IsOpened (state g.S.Store c.transaction-tx.result.conn.now) (state g.S.Store mid))
-          c.in-Ok-Alien.field-0-is (c.in-Ok-Alien.ensures.ok early (rw began refl) (rw began ours))) in
+    c.in-Ok-Alien.field-0-is (c.in-Ok-Alien.ensures.ok early (rw began refl) (rw began ours))) in
     let by = opened.to in
     ((state g.S.Store mid).now, search (rules, by))
 
@@ -95,7 +95,7 @@ returns-in-Ok-clause-read g c =
     let whole : HasCleanDisk (state g.S.Store end) → AreRead (state g.S.Store end).now c.in-Ok-Held.tables =
     λ clean.
     let read = subst (IsRead (state g.S.Store mid).now)
-        c.in-Ok-Held.field-0-is (c.in-Ok-Held.ensures.read (omega (arith, c.commit.ensures.survives.clean))) in
+    c.in-Ok-Held.field-0-is (c.in-Ok-Held.ensures.read (omega (arith, c.commit.ensures.survives.clean))) in
     subst (λ (d : Database). AreRead d c.in-Ok-Held.tables) (sym (c.in-Ok.ensures.ok clean).1.now_is) read in
     let same : end ≡ c.conn-in-Ok-Held-1.given.0 = search rules in
     subst (λ h. HasCleanDisk (state g.S.Store h) → AreRead (state g.S.Store h).now c.in-Ok-Held.tables) same whole

@@ -28,5 +28,5 @@ returns-in-Err-read_filters-clause-fails g c clean inside =
     let early : HasCleanDisk (state g.S.Store mid) = omega (arith, late, c.read_picks.ensures.survives.clean) in
     let reached = reaches_read g.S.Store old mid c.read_runs.ensures.survives inside (c.in-Ok.ensures.same early) in
     let further = reaches_then g.S.Store old mid next reached
-        (reaches_read g.S.Store mid next c.read_picks.ensures.survives reached.mode (c.in-Ok-read_picks.ensures.same late)) in
+    (reaches_read g.S.Store mid next c.read_picks.ensures.survives reached.mode (c.in-Ok-read_picks.ensures.same late)) in
     (next, further, (select_filters, filter_kinds, (5, omega arith, refl), c.in-Err-read_filters.ensures.fails clean further.mode))

@@ -15,4 +15,4 @@ returns-in-Err-read_derived-clause-fails g c clean inside =
     let early : HasCleanDisk (state g.S.Store mid) = omega (arith, c.read_derived.ensures.survives.clean) in
     let reached = reaches_read g.S.Store old mid c.read_written.ensures.survives inside (c.in-Ok.ensures.same early) in
     later g.S.Store FailsToReadTables old mid c.read_derived.new.tx.conn.now c.in-Err-read_derived.error reached
-      (c.in-Err-read_derived.ensures.fails clean reached.mode)
+    (c.in-Err-read_derived.ensures.fails clean reached.mode)

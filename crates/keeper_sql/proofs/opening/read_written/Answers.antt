@@ -28,5 +28,5 @@ returns-in-Err-read_queries-clause-fails g c clean inside =
     let early : HasCleanDisk (state g.S.Store mid) = omega (arith, late, c.read_notes.ensures.survives.clean) in
     let reached = reaches_read g.S.Store old mid c.read_docs.ensures.survives inside (c.in-Ok.ensures.same early) in
     let further = reaches_then g.S.Store old mid next reached
-        (reaches_read g.S.Store mid next c.read_notes.ensures.survives reached.mode (c.in-Ok-read_notes.ensures.same late)) in
+    (reaches_read g.S.Store mid next c.read_notes.ensures.survives reached.mode (c.in-Ok-read_notes.ensures.same late)) in
     (next, further, (select_queries, query_kinds, (2, omega arith, refl), c.in-Err-read_queries.ensures.fails clean further.mode))

@@ -12,5 +12,5 @@ invariant-adds g l =
     let now = state g.S.Store l.tx.conn.now in
     (l.tx.conn.ghost_name ≡ l.fn.tx.conn.ghost_name) × Survives old now (λ _. ⊥)
     × (HasCleanDisk now → IsTrue old.in_transaction
-        → RowsWritten (only 5 (map (λ x. as_kept (given_pick x)) (take l.pick-index l.picks))) old now)
+    → RowsWritten (only 5 (map (λ x. as_kept (given_pick x)) (take l.pick-index l.picks))) old now)
     × (map pick_in (map (λ x. as_kept (given_pick x)) (take l.pick-index l.picks)) ≡ take l.pick-index l.picks)

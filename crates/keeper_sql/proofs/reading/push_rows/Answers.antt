@@ -28,7 +28,7 @@ returns-in_err-push_row-clause-fails g c =
     let rest : List Row = into_iter_items c.next.new.self in
     let items : into_iter_items c.loop-row.row-iterator ≡ c.in-Some.row ∷ rest = search rules in
     let one : IsOneOf all c.in-Some.row =
-        one_here c.in-Some.row rest all (subst (λ l. (r : Row) → IsOneOf l r → IsOneOf all r) items c.loop-row.invariant.one) in
+    one_here c.in-Some.row rest all (subst (λ l. (r : Row) → IsOneOf l r → IsOneOf all r) items c.loop-row.invariant.one) in
     let by : FailsToTakeRows g.T.TableRow.kinds all c.in_err-push_row.field-0.0 =
-        taken_rows g.T.TableRow.kinds c.in-Some.row all c.in_err-push_row.field-0.0 one c.in_err-push_row.ensures.fails in
+    taken_rows g.T.TableRow.kinds c.in-Some.row all c.in_err-push_row.field-0.0 one c.in_err-push_row.ensures.fails in
     search (rules, by)

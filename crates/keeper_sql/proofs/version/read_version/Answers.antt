@@ -17,15 +17,15 @@ returns-in-Err-clause-err g c clean has = query_undone (state g.S.Store c.args.t
 pub returns-in-Ok-clause-same : goal.returns-in-Ok-clause-same
 returns-in-Ok-clause-same g c clean =
     always_ok c.version_of.result (shown_rests select_meta (state g.S.Store c.args.tx.now.conn.now)
-        (state g.S.Store c.query_all.new.self.conn.now) _ meta_asks (c.in-Ok.ensures.ok clean))
+    (state g.S.Store c.query_all.new.self.conn.now) _ meta_asks (c.in-Ok.ensures.ok clean))
 
 pub returns-in-Ok-clause-read : goal.returns-in-Ok-clause-read
 returns-in-Ok-clause-read g c clean has =
     let old = state g.S.Store c.args.tx.now.conn.now in
     let new = state g.S.Store c.query_all.new.self.conn.now in
     IfOk-weaker c.version_of.result _ _
-      (λ version is keyed. is ∙ ap version_shown (c.as_slice.ensures.value ∙ meta_shown old new _ has keyed (c.in-Ok.ensures.ok clean))
-        ∙ version_as_shown (old.now.trees 0)) c.version_of.ensures.ok
+    (λ version is keyed. is ∙ ap version_shown (c.as_slice.ensures.value ∙ meta_shown old new _ has keyed (c.in-Ok.ensures.ok clean))
+    ∙ version_as_shown (old.now.trees 0)) c.version_of.ensures.ok
 
 pub returns-in-Ok-clause-err : goal.returns-in-Ok-clause-err
 returns-in-Ok-clause-err g c clean has =
@@ -36,8 +36,8 @@ returns-in-Ok-clause-err g c clean has =
 pub returns-in-Err-clause-fails : goal.returns-in-Err-clause-fails
 returns-in-Err-clause-fails g c clean inside =
     let by : FailsToRead select_meta version_kinds (state g.S.Store c.args.tx.now.conn.now) (state g.S.Store c.query_all.new.self.conn.now)
-        c.in-Err.error = inl (c.in-Err.ensures.err clean) in
-        by
+    c.in-Err.error = inl (c.in-Err.ensures.err clean) in
+    by
 
 pub returns-in-Ok-clause-fails : goal.returns-in-Ok-clause-fails
 returns-in-Ok-clause-fails g c clean inside =

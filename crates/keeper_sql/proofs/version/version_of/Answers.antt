@@ -11,5 +11,5 @@ returns-in_err-integer-in-Some-clause-fails c =
     let e = c.in_err-integer-in-Some.field-0.0 in
     let by : FailsToTakeRows version_kinds c.args.shown.now e =
     taken_rows version_kinds c.in-Some.row.now c.args.shown.now e (one_first c.in-Some.row.now c.args.shown.now at)
-      (taken_of version_kinds Integer c.in-Some.row.now 1 e refl c.in_err-integer-in-Some.ensures.fails) in
+    (taken_of version_kinds Integer c.in-Some.row.now 1 e refl c.in_err-integer-in-Some.ensures.fails) in
     search (rules, by)

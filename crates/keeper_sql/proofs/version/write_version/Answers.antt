@@ -9,8 +9,13 @@ returns-in-Ok-clause-ok g c clean inside =
     let old = state g.S.Store c.args.tx.now.conn.now in
     let new = state g.S.Store c.execute.new.self.conn.now in
     let h = c.in-Ok.ensures.runs clean inside in
-    record { was_open = λ _. h.1.was_open; is_open = λ _. h.1.is_open; mode = h.1.mode; committed = h.1.committed_is;
-        writes = λ has meta. writes_version old new c.in-Ok.field-0 has meta h.0 }
+    record {
+      was_open = λ _. h.1.was_open;
+      is_open = λ _. h.1.is_open;
+      mode = h.1.mode;
+      committed = h.1.committed_is;
+      writes = λ has meta. writes_version old new c.in-Ok.field-0 has meta h.0;
+    }
 
 pub returns-in-Ok-clause-at : goal.returns-in-Ok-clause-at
 returns-in-Ok-clause-at g c clean =

@@ -14,4 +14,4 @@ invariant_of-self-2 c =
     let within : e.doc.0 < length marks = search rules in
     let more : c.push.new.self.items ≡ es ++ e ∷ [] = search rules in
     subst (λ x. IsBox x (slice_set marks e.doc.0 true)) (sym more)
-      (box_more es c.self.inside.delivered.items marks e c.self.invariant c.make_mark.ensures.same within out room)
+    (box_more es c.self.inside.delivered.items marks e c.self.invariant c.make_mark.ensures.same within out room)

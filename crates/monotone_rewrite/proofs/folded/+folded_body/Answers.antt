@@ -29,7 +29,7 @@ returns-in_ok-both-in-All-clause-tree t c =
     let left : IsTreeAt c.folded_body.new.pool c.in_ok-left-in-All.left.0 x = search rules in
     let right : IsTreeAt c.folded_body-in-All.new.pool c.in_ok-right-in-All.right.0 y = search rules in
     rw c.in-All.is (all_known c.folded_body-in-All.new.pool c.shared_all.new.pool _ _ _ x y (c.in_ok-right-in-All.ensures.kept _ _ left)
-        right c.in_ok-both-in-All.ensures.tree)
+    right c.in_ok-both-in-All.ensures.tree)
 
 pub returns-in_ok-either-in-Either-clause-kept : goal.returns-in_ok-either-in-Either-clause-kept
 returns-in_ok-either-in-Either-clause-kept t c id x h =
@@ -43,7 +43,7 @@ returns-in_ok-either-in-Either-clause-tree t c =
     let left : IsTreeAt c.folded_body-in-Either.new.pool c.in_ok-left-in-Either.left.0 x = search rules in
     let right : IsTreeAt c.folded_body-in-Either-2.new.pool c.in_ok-right-in-Either.right.0 y = search rules in
     rw c.in-Either.is (either_known c.folded_body-in-Either-2.new.pool c.shared_either.new.pool _ _ _ x y
-        (c.in_ok-right-in-Either.ensures.kept _ _ left) right c.in_ok-either-in-Either.ensures.tree)
+    (c.in_ok-right-in-Either.ensures.kept _ _ left) right c.in_ok-either-in-Either.ensures.tree)
 
 pub returns-in_ok-opposite-in-Not-clause-kept : goal.returns-in_ok-opposite-in-Not-clause-kept
 returns-in_ok-opposite-in-Not-clause-kept t c id x h = c.in_ok-opposite-in-Not.ensures.kept id x (c.in_ok-inner-in-Not.ensures.kept id x h)
@@ -60,6 +60,6 @@ returns-in_ok-some-in-Exists-clause-tree t c =
     let here : IsTreeAt c.folded_atom-in-Exists.new.pool c.in_ok-here-in-Exists.here.0 come = search rules in
     let inner : IsTreeAt c.folded_body-in-Exists.new.pool c.in_ok-inner-in-Exists.inner.0 x = search rules in
     let both = all_known c.folded_body-in-Exists.new.pool c.shared_all-in-Exists.new.pool _ _ _ come x
-        (c.in_ok-inner-in-Exists.ensures.kept _ _ here) inner c.in_ok-both-in-Exists.ensures.tree in
+    (c.in_ok-inner-in-Exists.ensures.kept _ _ here) inner c.in_ok-both-in-Exists.ensures.tree in
     rw c.in-Exists.is (exists_known c.shared_all-in-Exists.new.pool c.shared_exists.new.pool _ _
-        c.in-Exists.var c.in-Exists.table (fold_all (known come) (known x) come x) both c.in_ok-some-in-Exists.ensures.tree)
+    c.in-Exists.var c.in-Exists.table (fold_all (known come) (known x) come x) both c.in_ok-some-in-Exists.ensures.tree)

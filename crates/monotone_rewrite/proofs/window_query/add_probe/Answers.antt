@@ -11,5 +11,5 @@ push_probe-requires-clause-kept c =
 pub returns-clause-probes : goal.returns-clause-probes
 returns-clause-probes c =
     probe_added c.args.pool.now c.folded_body.new.pool c.in_ok-body.ensures.kept c.args.probes.now c.requires.kept c.push_probe.new.probes
-      c.args.mark.now c.in_ok-body.body.0 (fold c.args.mark.now.at (body (condition c.args.cond.now) c.args.mark.now.at))
-      c.in_ok-body.ensures.tree c.in_ok-push_probe.ensures.probes
+    c.args.mark.now c.in_ok-body.body.0 (fold c.args.mark.now.at (body (condition c.args.cond.now) c.args.mark.now.at))
+    c.in_ok-body.ensures.tree c.in_ok-push_probe.ensures.probes

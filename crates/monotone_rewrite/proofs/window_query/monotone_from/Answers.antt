@@ -11,7 +11,7 @@ pub returns-clause-is_union : goal.returns-clause-is_union
 returns-clause-is_union c =
     let w : probes_of c.in_ok-query.query ≡ window (condition c.args.cond.now) c.args.start = search rules in
     subst (λ X. IsUnionOf (condition c.args.cond.now) c.args.start X) (sym w)
-      (window_is_union (condition c.args.cond.now) c.args.start c.requires.query.scoped c.requires.from_zero)
+    (window_is_union (condition c.args.cond.now) c.args.start c.requires.query.scoped c.requires.from_zero)
 
 pub returns-clause-scopes : goal.returns-clause-scopes
 returns-clause-scopes c =

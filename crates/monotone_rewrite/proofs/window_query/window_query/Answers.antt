@@ -11,7 +11,7 @@ pub loop-mark-init : goal.loop-mark-init
 loop-mark-init c =
     let m : c.as_slice-mark-items.result.now ≡ rising_from (condition c.args.cond.now) c.args.start = search rules in
     let bounded : bounded_marks c.as_slice-mark-items.result.now ≡ true = subst (λ ms. bounded_marks ms ≡ true) (sym m)
-        (rising_bounded (condition c.args.cond.now) c.args.start c.requires.query.bounded c.requires.from_zero c.requires.to_last) in
+    (rising_bounded (condition c.args.cond.now) c.args.start c.requires.query.bounded c.requires.from_zero c.requires.to_last) in
     record { probes = rw c.new-probes.ensures refl; kept = rw c.new-probes.ensures refl; bounded = bounded }
 
 pub loop-mark-preserved : goal.loop-mark-preserved
@@ -20,7 +20,7 @@ loop-mark-preserved c =
     let i = c.loop-mark.mark-index in
     let first : drop i ms ≡ c.mark-item.result ∷ drop (i + 1) ms = search (rules, drop-cons) in
     let bounded : bounded_marks (c.mark-item.result ∷ drop (i + 1) ms) ≡ true =
-        subst (λ z. bounded_marks z ≡ true) first c.loop-mark.invariant.bounded in
+    subst (λ z. bounded_marks z ≡ true) first c.loop-mark.invariant.bounded in
     record {
       probes =
           next_mark (condition c.args.cond.now) ms (drop (i + 1) ms) i c.mark-item.result (probes_in c.loop-mark.pool c.loop-mark.probes)

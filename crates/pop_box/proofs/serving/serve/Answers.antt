@@ -64,7 +64,7 @@ returns-in-Err-Memory-clause-refusals g c = record {
 pub returns-clause-session : goal.returns-clause-session
 returns-clause-session g c = λ t honest holds store.
     served-words c.serve_box.result t _ _ _ _ _ _ _ _ _ _ _
-      c.in-Ok.ensures.user c.in-Ok.ensures.name c.in-Ok.ensures.secret (c.serve_box.ensures.session t honest holds store)
+    c.in-Ok.ensures.user c.in-Ok.ensures.name c.in-Ok.ensures.secret (c.serve_box.ensures.session t honest holds store)
 
 pub returns-clause-quit : goal.returns-clause-quit
 returns-clause-quit g c =
@@ -104,4 +104,4 @@ returns-in-Err-Memory-clause-prompt g c = λ t honest holds store. unasked _ _
 pub returns-clause-prompt : goal.returns-clause-prompt
 returns-clause-prompt g c = λ t honest holds store.
     asked-words t _ _ _ _ _ _ _ _ _ _
-      c.in-Ok.ensures.user c.in-Ok.ensures.name c.in-Ok.ensures.secret (c.serve_box.ensures.prompt t honest holds store)
+    c.in-Ok.ensures.user c.in-Ok.ensures.name c.in-Ok.ensures.secret (c.serve_box.ensures.prompt t honest holds store)

@@ -12,7 +12,7 @@ pub returns-in-Ok-clause-session : goal.returns-in-Ok-clause-session
 returns-in-Ok-clause-session g c = λ t honest holds store.
     served c.serve_with.result _ _ _ _ _ _ _ (g.P.Keeper.has_version c.args.keeper.now)
     (c.serve_with.ensures.session t (c.in-Ok.ensures.represents honest t holds.told)
-      (subst (λ s. IsSound t s) (sym c.in-Ok.ensures.session) store))
+    (subst (λ s. IsSound t s) (sym c.in-Ok.ensures.session) store))
 
 pub returns-in-Ok-clause-unchanged : goal.returns-in-Ok-clause-unchanged
 returns-in-Ok-clause-unchanged g c = λ t honest holds. record {
@@ -30,16 +30,16 @@ returns-in-Ok-clause-refusals g c = record {
 pub returns-in-Err-Refused-clause-session : goal.returns-in-Err-Refused-clause-session
 returns-in-Err-Refused-clause-session g c = λ t honest holds store.
     refused c.code.result _ _ _ _ _ _ _ (g.P.Keeper.has_version c.args.keeper.now)
-      (refusal-number _ c.refuse.result c.code.ensures c.refuse.ensures.statuses) refl
+    (refusal-number _ c.refuse.result c.code.ensures c.refuse.ensures.statuses) refl
     (λ v version known. some-or-none (fault_of v t) c.in-Err-Refused.fault
-      (refused-for _ _ c.in-Err-Refused.fault c.in-Err-Refused.ensures.refused c.in-Err-Refused.field-0-is honest t holds.told v version)
-      (fine-store t v store known))
+    (refused-for _ _ c.in-Err-Refused.fault c.in-Err-Refused.ensures.refused c.in-Err-Refused.field-0-is honest t holds.told v version)
+    (fine-store t v store known))
 
 pub returns-in-Err-Refused-clause-unchanged : goal.returns-in-Err-Refused-clause-unchanged
 returns-in-Err-Refused-clause-unchanged g c = λ t honest holds. record {
   exact = c.in-Err-Refused.ensures.crash honest t holds.told;
   told = λ _. (c.in-Err-Refused.ensures.kept honest t
-        holds.told (not-stopped (g.P.Keeper.stopped c.open_store.new.keeper) c.in-Err-Refused.ensures.stopped.0 (λ e. cc))).told;
+      holds.told (not-stopped (g.P.Keeper.stopped c.open_store.new.keeper) c.in-Err-Refused.ensures.stopped.0 (λ e. cc))).told;
 }
 
 pub returns-in-Err-Refused-clause-refusals : goal.returns-in-Err-Refused-clause-refusals
@@ -48,7 +48,7 @@ returns-in-Err-Refused-clause-refusals g c = record {
   fine = search rules;
   known = λ t honest holds store v version known _.
       absurd (some-or-none (fault_of v t) c.in-Err-Refused.fault (refused-for _ _ c.in-Err-Refused.fault c.in-Err-Refused.ensures.refused
-          c.in-Err-Refused.field-0-is honest t holds.told v version) (fine-store t v store known));
+      c.in-Err-Refused.field-0-is honest t holds.told v version) (fine-store t v store known));
 }
 
 pub returns-in-Err-Keeper-clause-session : goal.returns-in-Err-Keeper-clause-session
@@ -73,14 +73,14 @@ pub returns-in-Err-Memory-clause-unchanged : goal.returns-in-Err-Memory-clause-u
 returns-in-Err-Memory-clause-unchanged g c = λ t honest holds. record {
   exact = c.in-Err-Memory.ensures.crash honest t holds.told;
   told = λ _. (c.in-Err-Memory.ensures.kept honest t
-        holds.told (not-stopped (g.P.Keeper.stopped c.open_store.new.keeper) c.in-Err-Memory.ensures.stopped.0 (λ e. cc))).told;
+      holds.told (not-stopped (g.P.Keeper.stopped c.open_store.new.keeper) c.in-Err-Memory.ensures.stopped.0 (λ e. cc))).told;
 }
 
 pub returns-in-Err-Memory-clause-refusals : goal.returns-in-Err-Memory-clause-refusals
 returns-in-Err-Memory-clause-refusals g c = record {
   refused = λ t honest holds v version fault is.
       Refused-none 7 fault _ _ _ _ _ _ t (inr (inr (inr (inr refl)))) (λ e. cc) refl refl (λ _. (c.in-Err-Memory.ensures.kept honest t
-          holds.told (not-stopped (g.P.Keeper.stopped c.open_store.new.keeper) c.in-Err-Memory.ensures.stopped.0 (λ e. cc))).told)
+      holds.told (not-stopped (g.P.Keeper.stopped c.open_store.new.keeper) c.in-Err-Memory.ensures.stopped.0 (λ e. cc))).told)
       (c.in-Err-Memory.ensures.crash honest t holds.told);
   fine = search rules;
   known = search rules;
@@ -90,12 +90,12 @@ pub returns-in-Ok-clause-version : goal.returns-in-Ok-clause-version
 returns-in-Ok-clause-version g c = λ t honest holds.
     exit-opened c.serve_with.result (g.P.Keeper.has_version c.args.keeper.now) (g.P.Keeper.has_version c.open_store.new.keeper)
     (served-not-two c.serve_with.result c.serve_with.ensures.statuses) (c.in-Ok.ensures.version honest t holds.told)
-      (c.in-Ok.ensures.known honest)
+    (c.in-Ok.ensures.known honest)
 
 pub returns-in-Err-Refused-clause-version : goal.returns-in-Err-Refused-clause-version
 returns-in-Err-Refused-clause-version g c = λ t honest holds.
     exit-refused c.code.result (g.P.Keeper.has_version c.args.keeper.now) (g.P.Keeper.has_version c.open_store.new.keeper)
-      (refusal-number _ c.refuse.result c.code.ensures c.refuse.ensures.statuses)
+    (refusal-number _ c.refuse.result c.code.ensures c.refuse.ensures.statuses)
     (refused-for _ _ c.in-Err-Refused.fault c.in-Err-Refused.ensures.migrated c.in-Err-Refused.field-0-is honest t holds.told)
 
 pub returns-in-Err-Keeper-clause-version : goal.returns-in-Err-Keeper-clause-version
@@ -108,7 +108,7 @@ returns-in-Err-Memory-clause-version g c =
 pub returns-in-Ok-clause-prompt : goal.returns-in-Ok-clause-prompt
 returns-in-Ok-clause-prompt g c = λ t honest holds store.
     c.serve_with.ensures.prompt t (c.in-Ok.ensures.represents honest t holds.told)
-      (subst (λ s. IsSound t s) (sym c.in-Ok.ensures.session) store)
+    (subst (λ s. IsSound t s) (sym c.in-Ok.ensures.session) store)
 
 pub returns-in-Err-Refused-clause-prompt : goal.returns-in-Err-Refused-clause-prompt
 returns-in-Err-Refused-clause-prompt g c = λ t honest holds store. unasked _ _

@@ -23,7 +23,7 @@ pieces-preserved g c =
       answering = Answering-more _ _ _ _ c.in-Ok.n c.least-room.result c.ask.new.into _ _ _ _ _ _ _ _ _
           c.pieces.invariant.answering c.pieces-test.true c.in-Ok.ensures.bound.0 c.in-Ok.ensures.bytes.0 c.least-room.ensures
           c.in-Ok-false.ensures.ok c.in-Ok-false.ensures.next c.in-Ok-false.ensures.quits _
-            c.in-Ok-false.field-0-test c.in-Ok-false.ensures.quit;
+          c.in-Ok-false.field-0-test c.in-Ok-false.ensures.quit;
       prompt = Answering-asked _ _ _ _ _ _ _ _ _ _ _ _
           c.pieces.invariant.prompt c.pieces.invariant.answering c.pieces-test.true c.in-Ok.ensures.asked;
       few = few-taken _ c.in-Ok.n c.pieces-test.true within;
@@ -40,25 +40,25 @@ pub returns-then-n-eq0-clause-ends : goal.returns-then-n-eq0-clause-ends
 returns-then-n-eq0-clause-ends g c =
     let some : 0 < length c.ask.new.into = grind arith in
     end-ends _ _ _ _ _ _ _ (Answering-end _ _ _ _ _ _ _ _ _ _ c.pieces.invariant.answering c.pieces-test.true
-        (none-taken _ _ c.in-Ok.n c.ask.new.into c.if-n-eq0.true c.in-Ok.ensures.bytes.0)) (c.in-Ok.ensures.bytes.1 c.if-n-eq0.true some)
+    (none-taken _ _ c.in-Ok.n c.ask.new.into c.if-n-eq0.true c.in-Ok.ensures.bytes.0)) (c.in-Ok.ensures.bytes.1 c.if-n-eq0.true some)
 
 pub returns-in-Ok-true-clause-ends : goal.returns-in-Ok-true-clause-ends
 returns-in-Ok-true-clause-ends g c =
     let within : c.in-Ok.n ≤ PIECE = grind (arith, c.in-Ok.ensures.bound) in
     quit-ends _ _ _ _ _ _ _
     (Answering-quit _ _ _ _ c.in-Ok.n c.least-room.result c.ask.new.into _ _ _ _ _ _ _ _
-      c.pieces.invariant.answering c.pieces-test.true c.in-Ok.ensures.bound.0 within c.in-Ok.ensures.bytes.0 c.least-room.ensures
+    c.pieces.invariant.answering c.pieces-test.true c.in-Ok.ensures.bound.0 within c.in-Ok.ensures.bytes.0 c.least-room.ensures
     c.in-Ok-true.ensures.ok c.in-Ok-true.ensures.next (c.in-Ok-true.ensures.over c.in-Ok-true.field-0-test) _
-      c.in-Ok-true.field-0-test c.in-Ok-true.ensures.quit)
+    c.in-Ok-true.field-0-test c.in-Ok-true.ensures.quit)
 
 pub returns-in-Err-take-clause-ends : goal.returns-in-Err-take-clause-ends
 returns-in-Err-take-clause-ends g c =
     let within : c.in-Ok.n ≤ PIECE = grind (arith, c.in-Ok.ensures.bound) in
     put-ends _ _ _ _ _ _ _
     (Answering-cut _ _ _ _ c.in-Ok.n c.least-room.result c.ask.new.into _ _ _ _ _ _ _
-      c.in-Err-take.field-0 (begun-grows c.args.session.now c.requires.unread c.requires.first c.replies_grow.ensures)
-      c.pieces.invariant.answering c.pieces-test.true c.in-Ok.ensures.bound.0 within
-      c.in-Ok.ensures.bytes.0 c.least-room.ensures c.in-Err-take.ensures.err)
+    c.in-Err-take.field-0 (begun-grows c.args.session.now c.requires.unread c.requires.first c.replies_grow.ensures)
+    c.pieces.invariant.answering c.pieces-test.true c.in-Ok.ensures.bound.0 within
+    c.in-Ok.ensures.bytes.0 c.least-room.ensures c.in-Err-take.ensures.err)
 
 pub returns-clause-ends : goal.returns-clause-ends
 returns-clause-ends g c =

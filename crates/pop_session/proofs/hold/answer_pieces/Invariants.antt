@@ -12,7 +12,7 @@ invariant-pieces g l = record {
   answering : Answering (g.S.Peer.left l.fn.source) (g.S.Peer.left l.source) l.taken (replies_from l.fn.session) (replies_from l.session)
       (quits_from l.fn.session) (quits_from l.session) (g.K.Sink.out l.fn.sink) (g.K.Sink.out l.sink);
   prompt : AskedOnlyWhen (λ left out. OpenEnd (replies_from l.fn.session) (quits_from l.fn.session) (g.S.Peer.left l.fn.source) left
-        (g.K.Sink.out l.fn.sink) out) (g.S.Peer.was_asked l.fn.source) (g.S.Peer.was_asked l.source);
+      (g.K.Sink.out l.fn.sink) out) (g.S.Peer.was_asked l.fn.source) (g.S.Peer.was_asked l.source);
   few : l.taken ≤ SESSION_LIMIT + PIECE;
   ready : CanTakeBytes l.session;
   reads : g.S.Peer.faults l.source ≡ g.S.Peer.faults l.fn.source;

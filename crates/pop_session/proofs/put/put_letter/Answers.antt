@@ -7,15 +7,15 @@ use Rattle.pop_session.proofs.put.put_letter.Goals as goal
 pub returns-in-Ok : goal.returns-in-Ok
 returns-in-Ok g c =
     let is = c.as_slice.ensures.value ∙ c.number_line.ensures
-        ∙ ap (λ n. crlf_line (codes "+OK " ++ decimal n)) (c.size_of.ensures.value ∙ ap size_of c.as_slice-text.ensures) in
+    ∙ ap (λ n. crlf_line (codes "+OK " ++ decimal n)) (c.size_of.ensures.value ∙ ap size_of c.as_slice-text.ensures) in
     Put-then g.K.Sink _ _ _ _ _ _ _ _ _
     (ap (λ xs. xs ++ (sent_lines c.args.letter.now.text ++ crlf_line (codes "."))) (sym is)
-      ∙ ap (λ t. c.as_slice.result.now ++ (sent_lines t ++ crlf_line (codes "."))) (sym c.as_slice-text.ensures))
+    ∙ ap (λ t. c.as_slice.result.now ++ (sent_lines t ++ crlf_line (codes "."))) (sym c.as_slice-text.ensures))
     c.in-Ok.ensures c.put_all_lines.ensures
 
 pub returns-in-Err : goal.returns-in-Err
 returns-in-Err g c =
     let is = c.as_slice.ensures.value ∙ c.number_line.ensures
-        ∙ ap (λ n. crlf_line (codes "+OK " ++ decimal n)) (c.size_of.ensures.value ∙ ap size_of c.as_slice-text.ensures) in
+    ∙ ap (λ n. crlf_line (codes "+OK " ++ decimal n)) (c.size_of.ensures.value ∙ ap size_of c.as_slice-text.ensures) in
     Put-cut g.K.Sink _ _ _ (sent_lines c.args.letter.now.text ++ crlf_line (codes ".")) _ _ _
-      (ap (λ xs. xs ++ (sent_lines c.args.letter.now.text ++ crlf_line (codes "."))) (sym is)) c.in-Err.ensures
+    (ap (λ xs. xs ++ (sent_lines c.args.letter.now.text ++ crlf_line (codes "."))) (sym is)) c.in-Err.ensures

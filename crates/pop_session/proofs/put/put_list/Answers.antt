@@ -6,10 +6,10 @@ use Rattle.pop_session.proofs.put.put_list.Goals as goal
 pub returns-in-Ok : goal.returns-in-Ok
 returns-in-Ok g c =
     Put-then g.K.Sink _ _ _ _ _ _ _ _ _ (ap (λ xs. xs ++ (rows_from c.args.listing 1 c.args.letters.now ++ crlf_line (codes ".")))
-        (sym (c.as_slice.ensures.value ∙ c.head_line.ensures))) c.in-Ok.ensures c.put_all_rows.ensures
+    (sym (c.as_slice.ensures.value ∙ c.head_line.ensures))) c.in-Ok.ensures c.put_all_rows.ensures
 
 pub returns-in-Err : goal.returns-in-Err
 returns-in-Err g c =
     Put-cut g.K.Sink _ _ _ (rows_from c.args.listing 1 c.args.letters.now ++ crlf_line (codes ".")) _ _ _
-      (ap (λ xs. xs ++ (rows_from c.args.listing 1 c.args.letters.now ++ crlf_line (codes ".")))
-        (sym (c.as_slice.ensures.value ∙ c.head_line.ensures))) c.in-Err.ensures
+    (ap (λ xs. xs ++ (rows_from c.args.listing 1 c.args.letters.now ++ crlf_line (codes ".")))
+    (sym (c.as_slice.ensures.value ∙ c.head_line.ensures))) c.in-Err.ensures

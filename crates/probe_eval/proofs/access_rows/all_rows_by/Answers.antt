@@ -9,4 +9,4 @@ pub returns : goal.returns
 returns c =
     let e : c.rows_by.result ≡ rows_by (pos 9223372036854775807) (access_at c.args.access) c.args.env.now c.args.index.now = search rules in
     e ∙ all_admitted (pos 9223372036854775807) c.args.index.now (omega (arith, ints))
-      c.docs-docs.ensures.places.moments c.notes-notes.ensures.places.moments (access_at c.args.access) c.args.env.now
+    c.docs-docs.ensures.places.moments c.notes-notes.ensures.places.moments (access_at c.args.access) c.args.env.now

@@ -10,24 +10,24 @@ pub returns-in-None-clause-truth : goal.returns-in-None-clause-truth
 returns-in-None-clause-truth g c =
     let e : c.rows_left-rows.result ≡ [] = search rules in
     sym (no_row c.args.search.now.index.now (condition_at c.args.search.now c.args.inner.0)
-        c.args.of c.args.table c.args.env.now c.rows_left-rows.result c.rows_left-rows.ensures.rows e)
+    c.args.of c.args.table c.args.env.now c.rows_left-rows.result c.rows_left-rows.ensures.rows e)
 
 pub returns-then-body_holds-clause-truth : goal.returns-then-body_holds-clause-truth
 returns-then-body_holds-clause-truth g c =
     let e : c.rows_left-rows.result ≡ row_of c.in-Some.row ∷ c.next.new.self = search rules in
     let h : truth c.args.search.now.index.now (pos 0) (condition_at c.args.search.now c.args.inner.0)
-        (bind c.args.of (row_of c.in-Some.row) c.args.env.now) ≡ true = search rules in
+    (bind c.args.of (row_of c.in-Some.row) c.args.env.now) ≡ true = search rules in
     let a = first_row c.args.search.now.index.now (condition_at c.args.search.now c.args.inner.0) c.args.of c.args.table c.args.env.now
-        c.rows_left-rows.result c.rows_left-rows.ensures.rows c.next.new.self (row_of c.in-Some.row) e h in
+    c.rows_left-rows.result c.rows_left-rows.ensures.rows c.next.new.self (row_of c.in-Some.row) e h in
     search (rules, a)
 
 pub returns-else-body_holds-clause-truth : goal.returns-else-body_holds-clause-truth
 returns-else-body_holds-clause-truth g c =
     let e : c.rows_left-rows.result ≡ row_of c.in-Some.row ∷ c.next.new.self = search rules in
     let h : truth c.args.search.now.index.now (pos 0) (condition_at c.args.search.now c.args.inner.0)
-        (bind c.args.of (row_of c.in-Some.row) c.args.env.now) ≡ false = search rules in
+    (bind c.args.of (row_of c.in-Some.row) c.args.env.now) ≡ false = search rules in
     let a = later_row c.args.search.now.index.now (condition_at c.args.search.now c.args.inner.0) c.args.of c.args.table c.args.env.now
-        c.rows_left-rows.result c.rows_left-rows.ensures.rows c.next.new.self (row_of c.in-Some.row) e h in
+    c.rows_left-rows.result c.rows_left-rows.ensures.rows c.next.new.self (row_of c.in-Some.row) e h in
     search (rules, a)
 
 pub returns-else-body_holds-clause-never : goal.returns-else-body_holds-clause-never

@@ -10,12 +10,12 @@ use Rattle.probe_eval.proofs.bodies.+bodies.Given as goal
 abbrev pub invariant-any_own-loop-row : goal.invariant-any_own-loop-row
 invariant-any_own-loop-row g l = record {
   same : list_any (λ row. truth l.fn.search.index.now (pos 0) (own_part l.fn.var (condition_at l.fn.search l.fn.inner.0))
-        (bind l.fn.var row l.fn.env)) l.initial.rows ≡ list_any (λ row. truth l.fn.search.index.now (pos 0)
-        (own_part l.fn.var (condition_at l.fn.search l.fn.inner.0)) (bind l.fn.var row l.fn.env)) l.rows;
+      (bind l.fn.var row l.fn.env)) l.initial.rows ≡ list_any (λ row. truth l.fn.search.index.now (pos 0)
+      (own_part l.fn.var (condition_at l.fn.search l.fn.inner.0)) (bind l.fn.var row l.fn.env)) l.rows;
   steps : l.steps + total (λ row.
-        1 + work l.fn.search.index.now (own_part l.fn.var (condition_at l.fn.search l.fn.inner.0)) (bind l.fn.var row l.fn.env)) l.rows
+      1 + work l.fn.search.index.now (own_part l.fn.var (condition_at l.fn.search l.fn.inner.0)) (bind l.fn.var row l.fn.env)) l.rows
       ≤ l.fn.steps + total (λ row. 1 + work l.fn.search.index.now (own_part l.fn.var (condition_at l.fn.search l.fn.inner.0))
-        (bind l.fn.var row l.fn.env)) l.initial.rows;
+      (bind l.fn.var row l.fn.env)) l.initial.rows;
   more : l.fn.steps ≤ l.steps;
 }
 

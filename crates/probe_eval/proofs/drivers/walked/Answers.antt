@@ -24,5 +24,5 @@ returns-in-Some c =
     let s = seek_window c.args.w c.args.seek in
     let k : chosen T c.args.var path c.args.seek (table_in path c.args.var.0) ≡ Some c.in-Some.guard.now = search rules in
     let e : c.under_literal.result ≡ filter (λ row. true_atom c.in-Some.guard.now (bind c.args.var row []))
-        (map OfDoc (in_window doc_arrival s.low s.high T.docs)) = search rules in
+    (map OfDoc (in_window doc_arrival s.low s.high T.docs)) = search rules in
     e ∙ walked_is T c.args.w (searched c.args.search.now) c.args.seek c.args.var c.in-Some.guard.now k

@@ -12,7 +12,7 @@ use Rattle.probe_eval.proofs.inner_rows.docs_left.Goals as goal
 
 pub returns-then-len-lt-LONG : goal.returns-then-len-lt-LONG
 returns-then-len-lt-LONG c = all_left (λ d. truth c.args.search.now.index.now (pos 0) (condition_at c.args.search.now c.args.inner.0)
-      (bind c.args.var (OfDoc d) c.args.env.now)) c.args.docs c.args.docs refl
+    (bind c.args.var (OfDoc d) c.args.env.now)) c.args.docs c.args.docs refl
 
 pub between-requires : goal.between-requires
 between-requires c = c.requires.docs.numbers
@@ -30,23 +30,23 @@ returns-in-None c =
     let T = c.args.search.now.index.now in
     let kept : c.between.result ≡ between c.bound_in-low.result c.bound_in-high.result c.args.docs = search rules in
     left_between (λ d. truth T (pos 0) (condition_at c.args.search.now c.args.inner.0) (bind c.args.var (OfDoc d) c.args.env.now))
-      c.args.docs c.between.result c.bound_in-low.result c.bound_in-high.result kept
+    c.args.docs c.between.result c.bound_in-low.result c.bound_in-high.result kept
     (for_tables Above (λ t d. truth t (pos 0) (condition_at c.args.search.now c.args.inner.0) (bind c.args.var (OfDoc d) c.args.env.now)) T
-        c.bound_in-low.result c.bound_in-low.ensures)
-      (for_tables Below (λ t d. truth t (pos 0) (condition_at c.args.search.now c.args.inner.0) (bind c.args.var (OfDoc d) c.args.env.now))
-        T c.bound_in-high.result c.bound_in-high.ensures)
+    c.bound_in-low.result c.bound_in-low.ensures)
+    (for_tables Below (λ t d. truth t (pos 0) (condition_at c.args.search.now c.args.inner.0) (bind c.args.var (OfDoc d) c.args.env.now))
+    T c.bound_in-high.result c.bound_in-high.ensures)
 
 pub returns-in-Some : goal.returns-in-Some
 returns-in-Some c =
     let T = c.args.search.now.index.now in
     let test : Doc
-        → Bool = λ d. truth T (pos 0) (condition_at c.args.search.now c.args.inner.0) (bind c.args.var (OfDoc d) c.args.env.now) in
+    → Bool = λ d. truth T (pos 0) (condition_at c.args.search.now c.args.inner.0) (bind c.args.var (OfDoc d) c.args.env.now) in
     let by : c.arrived_to.result ≡ up_to doc_arrival c.in-Some.last c.args.docs = search rules in
     let kept : c.between-in-Some.result ≡ between c.bound_in-low.result c.bound_in-high.result c.arrived_to.result = search rules in
     left_again test c.args.docs c.arrived_to.result (left_up_to test c.args.docs c.in-Some.last c.arrived_to.result
-        by (λ d. c.in-Some.ensures T (OfDoc d))) c.between-in-Some.result
+    by (λ d. c.in-Some.ensures T (OfDoc d))) c.between-in-Some.result
     (left_between test c.arrived_to.result c.between-in-Some.result c.bound_in-low.result c.bound_in-high.result kept
-      (for_tables Above (λ t d. truth t (pos 0) (condition_at c.args.search.now c.args.inner.0) (bind c.args.var (OfDoc d) c.args.env.now))
-        T c.bound_in-low.result c.bound_in-low.ensures)
-      (for_tables Below (λ t d. truth t (pos 0) (condition_at c.args.search.now c.args.inner.0) (bind c.args.var (OfDoc d) c.args.env.now))
-        T c.bound_in-high.result c.bound_in-high.ensures))
+    (for_tables Above (λ t d. truth t (pos 0) (condition_at c.args.search.now c.args.inner.0) (bind c.args.var (OfDoc d) c.args.env.now))
+    T c.bound_in-low.result c.bound_in-low.ensures)
+    (for_tables Below (λ t d. truth t (pos 0) (condition_at c.args.search.now c.args.inner.0) (bind c.args.var (OfDoc d) c.args.env.now))
+    T c.bound_in-high.result c.bound_in-high.ensures))

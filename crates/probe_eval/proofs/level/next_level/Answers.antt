@@ -15,11 +15,11 @@ returns-then-is_walked-clause-some g c =
     let f : further p.path c.args.mark c.args.env.now ≡ Some r = search rules in
     let q : c.is_once-sure.result ≡ is_once p.path c.args.env.now c.in_ok-rest.rest.now r.var = search rules in
     let w : is_walked c.args.search.now.index.now p c.args.mark c.is_once-sure.result c.args.order.now c.args.env.now ≡ true =
-        search rules in
+    search rules in
     record {
       hits = ap (λ z. hits_over c.args.search.now.seen.now c.args.search.now.index.now p c.args.mark z c.args.env.now) o
           ∙ next_hits c.args.search.now.seen.now c.args.search.now.index.now p
-              c.args.mark c.in_ok-rest.field-0-0.now c.in_ok-rest.rest.now c.args.env.now r c.requires.fresh f;
+          c.args.mark c.in_ok-rest.field-0-0.now c.in_ok-rest.rest.now c.args.env.now r c.requires.fresh f;
       sure = sure_below c.args.search.now.index.now p
           c.args.mark c.is_once-sure.result c.in_ok-rest.field-0-0.now c.in_ok-rest.rest.now c.args.env.now r f q
           (subst (λ z. is_walked c.args.search.now.index.now p c.args.mark c.is_once-sure.result z c.args.env.now ≡ true) o w);
@@ -34,11 +34,11 @@ returns-then-is_walked-clause-steps g c =
     let f : further p.path c.args.mark c.args.env.now ≡ Some r = search rules in
     let q : c.is_once-sure.result ≡ is_once p.path c.args.env.now c.in_ok-rest.rest.now r.var = search rules in
     let w : is_walked c.args.search.now.index.now p c.args.mark c.is_once-sure.result c.args.order.now c.args.env.now ≡ true =
-        search rules in
+    search rules in
     let h : c.is_walked.new.steps ≤ c.args.steps.now
-        + once_cost c.args.search.now.index.now p c.args.mark c.is_once-sure.result c.args.order.now c.args.env.now 0 = search rules in
+    + once_cost c.args.search.now.index.now p c.args.mark c.is_once-sure.result c.args.order.now c.args.env.now 0 = search rules in
     λ sure. level_paid c.args.search.now.index.now p c.args.mark c.args.steps.now c.is_walked.new.steps c.is_once-sure.result sure
-      c.args.order.now c.in_ok-rest.field-0-0.now c.in_ok-rest.rest.now c.args.env.now r o c.requires.fresh f q w h
+    c.args.order.now c.in_ok-rest.field-0-0.now c.in_ok-rest.rest.now c.args.env.now r o c.requires.fresh f q w h
 
 pub returns-else-is_walked-clause-none : goal.returns-else-is_walked-clause-none
 returns-else-is_walked-clause-none g c =
@@ -48,6 +48,6 @@ returns-else-is_walked-clause-none g c =
     let f : further p.path c.args.mark c.args.env.now ≡ Some r = search rules in
     let q : c.is_once-sure.result ≡ is_once p.path c.args.env.now c.in_ok-rest.rest.now r.var = search rules in
     let w : is_walked c.args.search.now.index.now p c.args.mark c.is_once-sure.result c.args.order.now c.args.env.now ≡ false =
-        search rules in
+    search rules in
     λ z. none_walked c.args.search.now.seen.now c.args.search.now.index.now p c.args.mark c.is_once-sure.result c.args.order.now
-      c.in_ok-rest.field-0-0.now c.in_ok-rest.rest.now c.args.env.now r o c.requires.fresh f q w
+    c.in_ok-rest.field-0-0.now c.in_ok-rest.rest.now c.args.env.now r o c.requires.fresh f q w

@@ -10,6 +10,6 @@ pub returns-in-Some : goal.returns-in-Some
 returns-in-Some c =
     let k : literal_kind c.args.var c.args.guard.now ≡ Some c.in-Some.kind = search rules in
     let e : c.docs_under.result ≡ map OfDoc (in_window doc_arrival
-          c.args.w.low c.args.w.high (with_text (texts_of c.in-Some.kind) (literal_of c.args.guard.now) c.args.index.now.docs)) =
-        search rules in
+    c.args.w.low c.args.w.high (with_text (texts_of c.in-Some.kind) (literal_of c.args.guard.now) c.args.index.now.docs)) =
+    search rules in
     e ∙ under_literal c.args.var c.args.guard.now c.in-Some.kind c.args.w.low c.args.w.high c.args.index.now.docs k

@@ -25,4 +25,4 @@ returns c =
     let by : c.arrived_to.result ≡ up_to doc_arrival c.args.mark c.args.docs = search rules in
     let kept : c.between.result ≡ between c.bound_on-low.result c.bound_on-high.result c.arrived_to.result = search rules in
     those_on c.args.path.now c.args.mark c.args.var c.args.env.now c.args.docs c.arrived_to.result c.between.result c.bound_on-low.result
-      c.bound_on-high.result by kept c.bound_on-low.ensures c.bound_on-high.ensures
+    c.bound_on-high.result by kept c.bound_on-low.ensures c.bound_on-high.ensures

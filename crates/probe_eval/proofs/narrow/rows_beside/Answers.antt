@@ -18,9 +18,9 @@ returns-in-Some c =
     let kept : c.of_docs.result ≡ map OfDoc c.docs_beside.result = search rules in
     let same : to_z w64 (of_z w64 c.args.mark) ≡ c.args.mark = search rules in
     let out = subst (λ m. LeavesFalse (λ d. may_go c.args.path.now m (bind c.args.reach.var (OfDoc d) c.args.env.now))
-          c.in-Some.found.docs c.docs_beside.result) same c.docs_beside.ensures in
+    c.in-Some.found.docs c.docs_beside.result) same c.docs_beside.ensures in
     docs_as_rows (λ row. may_go c.args.path.now c.args.mark (bind c.args.reach.var row c.args.env.now))
-      c.in-Some.found.docs c.docs_beside.result _ _ (c.in-Some.ensures.some.rows c.args.mark) kept out
+    c.in-Some.found.docs c.docs_beside.result _ _ (c.in-Some.ensures.some.rows c.args.mark) kept out
 
 pub docs_beside-requires : goal.docs_beside-requires
 docs_beside-requires c = c.in-Some.ensures.some.list.sorted

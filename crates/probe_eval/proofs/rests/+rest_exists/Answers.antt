@@ -44,9 +44,9 @@ loop-row-init g t c =
     let rest = c.in-Some-split_first.rest.now in
     let rows = rows_by mark (access_at c.in-Some.reach.access) env T in
     let whole : rest_of T path mark c.args.order.now env ≡ list_any (λ row. rest_of T path mark rest (bind v row env)) rows =
-        search rules in
+    search rules in
     let all : rest_cost T path mark c.args.order.now env
-        ≡ total (λ row. 1 + rest_cost T path mark rest (bind v row env)) (until (decides T path mark rest env v) rows) = search rules in
+    ≡ total (λ row. 1 + rest_cost T path mark rest (bind v row env)) (until (decides T path mark rest env v) rows) = search rules in
     let out : LeavesFalse (λ row. may_go path mark (bind v row env)) rows c.rows_beside-rows.result = c.rows_beside-rows.ensures in
     record {
       same = whole ∙ any_left path mark v env T rest rows c.rows_beside-rows.result out;
@@ -65,14 +65,14 @@ loop-row-preserved g t c =
     let x = bind c.in-Some.reach.var (row_of c.in-Some-next.row) c.args.env.now in
     let d : rest_of c.args.index.now c.args.path.now mark c.in-Some-split_first.rest.now x ≡ false = search rules in
     let k : c.rest_exists.new.steps ≤ c.next.new.steps + rest_cost c.args.index.now c.args.path.now mark c.in-Some-split_first.rest.now x =
-        search rules in
+    search rules in
     let a : (may_go c.args.path.now mark x && path_apart c.args.path.now c.args.env.now c.in-Some.reach.var) ≡ false = search rules in
     let n : IsNearestIfKnown c.args.path.now x c.rest_exists.new.next = search rules in
     let i = c.loop-row.invariant.more in
     let m = c.rest_exists.ensures.more in
     record {
       same = any_step (λ row. rest_of c.args.index.now c.args.path.now mark c.in-Some-split_first.rest.now
-            (bind c.in-Some.reach.var row c.args.env.now)) _ _ _ (row_of c.in-Some-next.row) c.loop-row.invariant.same e d;
+          (bind c.in-Some.reach.var row c.args.env.now)) _ _ _ (row_of c.in-Some-next.row) c.loop-row.invariant.same e d;
       steps = until_step _ (decides c.args.index.now c.args.path.now mark c.in-Some-split_first.rest.now c.args.env.now c.in-Some.reach.var)
           _ _ _ _ _ _ (row_of c.in-Some-next.row) c.loop-row.invariant.steps e (or_none d a) s k;
       more = omega (arith, i, s, m);
@@ -88,5 +88,5 @@ returns-then-is_like_others-clause-exists g t c =
     let a : (may_go c.args.path.now mark x && path_apart c.args.path.now c.args.env.now c.in-Some.reach.var) ≡ true = search rules in
     let k = and_parts (may_go c.args.path.now mark x) (path_apart c.args.path.now c.args.env.now c.in-Some.reach.var) a in
     let n = none_left c.args.index.now c.args.path.now mark c.args.env.now c.in-Some.reach.var k.1 c.in-Some-split_first.rest.now _ _ _
-        (row_of c.in-Some-next.row) c.loop-row.invariant.same e k.0 d in
+    (row_of c.in-Some-next.row) c.loop-row.invariant.same e k.0 d in
     search (rules, n)

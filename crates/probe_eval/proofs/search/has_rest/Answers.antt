@@ -7,4 +7,4 @@ pub returns-then-sure-clause-rest : goal.returns-then-sure-clause-rest
 returns-then-sure-clause-rest g c =
     let m : c.may_go.result ≡ may_go c.args.search.now.probe.now.path c.args.mark c.args.env.now = search rules in
     m ∙ sure_rest c.args.search.now.index.now c.args.search.now.probe.now.path c.args.mark c.args.order.now c.args.env.now
-      (c.requires.sure c.if-sure.true)
+    (c.requires.sure c.if-sure.true)

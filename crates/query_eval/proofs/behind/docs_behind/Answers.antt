@@ -26,7 +26,7 @@ done_from-len-requires-clause-done c =
     let n : Some c.in-Some.first ≡ doc_num (slice_get c.args.found.docs 0) = search rules in
     let p = c.done-known.ensures _ _ _ _ c.requires.fronts in
     let by = known_here c.args.search.now.seen.now c.args.search.now.index.now.docs (length c.args.into.now.places.items)
-        c.args.into.now.hits.items c.args.found.kind list.text c.args.found.docs c.in-Some.first mark c.done-known.result list.docs n p in
+    c.args.into.now.hits.items c.args.found.kind list.text c.args.found.docs c.in-Some.first mark c.done-known.result list.docs n p in
     search (rules, by)
 
 pub docs_beside-requires : goal.docs_beside-requires
@@ -35,9 +35,9 @@ docs_beside-requires c = subst IsSorted (sym c.skip.ensures) (sorted_behind c.do
 pub returns-in-Some-clause-rows : goal.returns-in-Some-clause-rows
 returns-in-Some-clause-rows c =
     let d : Each (IsDone c.args.search.now.seen.now (length c.args.into.now.places.items) c.args.into.now.hits.items c.args.mark)
-        (take c.done_from-len.result c.args.found.docs) = search rules in
+    (take c.done_from-len.result c.args.found.docs) = search rules in
     let out : LeavesFalse (λ d. may_go c.args.search.now.probe.now.path c.args.mark (bind c.args.var (OfDoc d) c.args.env.now))
-        c.skip.result c.docs_beside.result = search rules in
+    c.skip.result c.docs_beside.result = search rules in
     record {
       passed = take c.done_from-len.result c.args.found.docs;
       others = drop c.done_from-len.result c.args.found.docs;
@@ -45,7 +45,7 @@ returns-in-Some-clause-rows c =
       done = d;
       leaves =
           subst (λ docs. LeavesFalse (λ d. may_go c.args.search.now.probe.now.path c.args.mark (bind c.args.var (OfDoc d) c.args.env.now))
-            docs c.docs_beside.result) c.skip.ensures out;
+          docs c.docs_beside.result) c.skip.ensures out;
     }
 
 pub returns-in-Some-clause-fronts : goal.returns-in-Some-clause-fronts
@@ -54,6 +54,6 @@ returns-in-Some-clause-fronts c =
     let mark = to_z w64 (of_z w64 c.args.mark) in
     let n : Some c.in-Some.first ≡ doc_num (slice_get c.args.found.docs 0) = search rules in
     let p = passed_here c.args.search.now.seen.now c.args.search.now.index.now.docs (length c.args.into.now.places.items)
-        c.args.into.now.hits.items c.args.found.kind list.text c.args.found.docs c.in-Some.first mark c.done_from-len.result list.single
+    c.args.into.now.hits.items c.args.found.kind list.text c.args.found.docs c.in-Some.first mark c.done_from-len.result list.single
     c.docs-docs.ensures.places list.docs n c.done_from-len.ensures in
     c.put.ensures _ _ _ _ c.requires.fronts p

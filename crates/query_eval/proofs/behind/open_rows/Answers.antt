@@ -16,7 +16,7 @@ returns-then-reach-ne0-clause-rows c =
     let v = c.args.reach.var in
     let all = rows_by c.args.mark (access_at c.args.reach.access) c.args.env.now s.index.now in
     let out : LeavesFalse (λ row. may_go s.probe.now.path c.args.mark (bind v row c.args.env.now)) all c.rows_beside.result =
-        search rules in
+    search rules in
     behind_none s c.args.into.now c.args.mark v c.args.env.now all c.rows_beside.result out
 
 pub returns-in-None-clause-rows : goal.returns-in-None-clause-rows
@@ -26,7 +26,7 @@ returns-in-None-clause-rows c =
     let all = rows_by c.args.mark (access_at c.args.reach.access) c.args.env.now s.index.now in
     let same : c.rows_by.result ≡ all = search rules in
     behind_none s c.args.into.now c.args.mark v c.args.env.now all
-      c.rows_by.result (all_left (λ row. may_go s.probe.now.path c.args.mark (bind v row c.args.env.now)) all c.rows_by.result same)
+    c.rows_by.result (all_left (λ row. may_go s.probe.now.path c.args.mark (bind v row c.args.env.now)) all c.rows_by.result same)
 
 pub returns-in-Some-clause-rows : goal.returns-in-Some-clause-rows
 returns-in-Some-clause-rows c =
@@ -36,4 +36,4 @@ returns-in-Some-clause-rows c =
     let kept : c.of_docs.result ≡ map OfDoc c.docs_behind.result = search rules in
     let docs : AreDocsBehind s c.args.into.now c.args.mark v c.args.env.now c.in-Some.found.docs c.docs_behind.result = search rules in
     behind_docs s c.args.into.now c.args.mark v c.args.env.now c.in-Some.found.docs c.docs_behind.result _ _ z
-      (c.in-Some.ensures.some.rows c.args.mark) kept docs
+    (c.in-Some.ensures.some.rows c.args.mark) kept docs

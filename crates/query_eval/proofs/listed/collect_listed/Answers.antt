@@ -12,7 +12,7 @@ loop-row-preserved g c =
     let s : c.next.new.steps ≡ c.loop-row.steps + 1 = search rules in
     let p = searched c.args.search.now in
     let h : c.collect_marked.new.into.hits.items ≡ keeping (length c.loop-row.into.places.items)
-        c.loop-row.into.hits.items (listed_hits c.args.search.now.seen.now c.args.w p c.args.var (row_of c.in-Some.row)) = search rules in
+    c.loop-row.into.hits.items (listed_hits c.args.search.now.seen.now c.args.w p c.args.var (row_of c.in-Some.row)) = search rules in
     let i = c.loop-row.invariant.more in
     let k = c.loop-row.invariant.steps in
     let n = ap length e in

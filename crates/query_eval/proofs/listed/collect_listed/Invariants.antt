@@ -11,7 +11,7 @@ abbrev pub invariant-loop-row : goal.invariant-loop-row
 invariant-loop-row g l = record {
   hits : keeping (length l.fn.into.places.items)
       l.fn.into.hits.items (flat_map (listed_hits l.fn.search.seen.now l.fn.w (searched l.fn.search) l.fn.var)
-        (walked l.fn.search.index.now l.fn.w (searched l.fn.search) l.fn.seek l.fn.var)) ≡ keeping (length l.into.places.items)
+      (walked l.fn.search.index.now l.fn.w (searched l.fn.search) l.fn.seek l.fn.var)) ≡ keeping (length l.into.places.items)
       l.into.hits.items (flat_map (listed_hits l.fn.search.seen.now l.fn.w (searched l.fn.search) l.fn.var) l.rows);
   ready : CanStoreHits l.into;
   places : length l.into.places.items ≡ length l.fn.into.places.items;

@@ -32,10 +32,10 @@ loop-row-init g t c =
     let v : IsLevel c.args.search.now.seen.now T p mark c.args.order.now c.args.env.now level = search rules in
     let q : AreBehind c.args.search.now c.args.into.now mark level.reach.var c.args.env.now all c.open_rows-rows.result = search rules in
     let s : c.next_level.new.steps + level_cost T p mark c.args.env.now (Some level)
-        ≤ c.args.steps.now + work_over T p mark c.args.sure c.args.order.now c.args.env.now = search rules in
+    ≤ c.args.steps.now + work_over T p mark c.args.sure c.args.order.now c.args.env.now = search rules in
     let walk = level_steps T p mark c.args.env.now level all _ _ refl s in
     let fewer = behind_cost (λ row. 1 + work_over T p mark level.sure level.rest.now (bind level.reach.var row c.args.env.now))
-        c.args.search.now c.args.into.now mark level.reach.var c.args.env.now all _ q in
+    c.args.search.now c.args.into.now mark level.reach.var c.args.env.now all _ q in
     record {
       hits = level_hits c.args.search.now.seen.now T p mark c.args.order.now c.args.env.now level all n kept v refl
           ∙ behind_hits c.args.search.now c.args.into.now mark level.rest.now c.args.env.now level.reach.var all _ q;
@@ -55,10 +55,10 @@ loop-row-preserved g t c =
     let p = searched c.args.search.now in
     let x = bind c.in-Some.level.reach.var (row_of c.in-Some-next.row) c.args.env.now in
     let h : c.collect_once.new.into.hits.items ≡ keeping (length c.loop-row.into.places.items)
-        c.loop-row.into.hits.items (hits_over c.args.search.now.seen.now c.args.search.now.index.now p mark c.in-Some.level.rest.now x) =
-        search rules in
+    c.loop-row.into.hits.items (hits_over c.args.search.now.seen.now c.args.search.now.index.now p mark c.in-Some.level.rest.now x) =
+    search rules in
     let k : c.collect_once.new.steps
-        ≤ c.next.new.steps + work_over c.args.search.now.index.now p mark c.in-Some.level.sure c.in-Some.level.rest.now x = search rules in
+    ≤ c.next.new.steps + work_over c.args.search.now.index.now p mark c.in-Some.level.sure c.in-Some.level.rest.now x = search rules in
     let i = c.loop-row.invariant.more in
     let m = c.collect_once.ensures.more in
     let n : IsNearestIfKnown c.args.search.now.probe.now.path x c.collect_once.new.next = search rules in
@@ -78,31 +78,31 @@ returns-in-Some-OfDoc-clause-hits g t c =
     let p = searched c.args.search.now in
     let e : lookup 0 c.args.env.now ≡ Some (OfDoc c.in-Some-OfDoc.doc.now) = search rules in
     let h : c.collect_pair.new.into.hits.items ≡ keeping (length c.args.into.now.places.items) c.args.into.now.hits.items
-        (option_to_list (hit_if (holds_here c.args.search.now.index.now p c.args.mark c.args.order.now c.args.env.now)
-            c.args.mark (new_doc c.args.search.now.seen.now c.in-Some-OfDoc.doc.now))) = search rules in
+    (option_to_list (hit_if (holds_here c.args.search.now.index.now p c.args.mark c.args.order.now c.args.env.now)
+    c.args.mark (new_doc c.args.search.now.seen.now c.in-Some-OfDoc.doc.now))) = search rules in
     h ∙ ap (keeping (length c.args.into.now.places.items) c.args.into.now.hits.items) (sym (doc_hits c.args.search.now.seen.now
-          c.args.search.now.index.now p c.args.mark c.args.order.now c.args.env.now c.in-Some-OfDoc.doc.now e))
+    c.args.search.now.index.now p c.args.mark c.args.order.now c.args.env.now c.in-Some-OfDoc.doc.now e))
 
 pub returns-in-Some-OfDoc-clause-fronts : goal.returns-in-Some-OfDoc-clause-fronts
 returns-in-Some-OfDoc-clause-fronts g t c =
     let p = searched c.args.search.now in
     let n = length c.args.into.now.places.items in
     let hits = option_to_list (hit_if (holds_here c.args.search.now.index.now p c.args.mark c.args.order.now c.args.env.now)
-          c.args.mark (new_doc c.args.search.now.seen.now c.in-Some-OfDoc.doc.now)) in
+    c.args.mark (new_doc c.args.search.now.seen.now c.in-Some-OfDoc.doc.now)) in
     let h : c.collect_pair.new.into.hits.items ≡ keeping n c.args.into.now.hits.items hits = search rules in
     passed_on c.args.search.now.seen.now c.args.search.now.index.now.docs n (length c.collect_pair.new.into.places.items)
-      c.args.into.now.hits.items c.collect_pair.new.into.hits.items c.args.fronts.now.fronts.items hits c.collect_pair.ensures.places h
-      c.requires.fronts
+    c.args.into.now.hits.items c.collect_pair.new.into.hits.items c.args.fronts.now.fronts.items hits c.collect_pair.ensures.places h
+    c.requires.fronts
 
 pub returns-in-Some-OfDoc-clause-steps : goal.returns-in-Some-OfDoc-clause-steps
 returns-in-Some-OfDoc-clause-steps g t c =
     let p = searched c.args.search.now in
     let e : lookup 0 c.args.env.now ≡ Some (OfDoc c.in-Some-OfDoc.doc.now) = search rules in
     let k : work_over c.args.search.now.index.now p c.args.mark c.args.sure c.args.order.now c.args.env.now
-        ≡ cost_here c.args.search.now.index.now p c.args.mark c.args.sure c.args.order.now c.args.env.now =
-        doc_cost c.args.search.now.index.now p c.args.mark c.args.sure c.args.order.now c.args.env.now c.in-Some-OfDoc.doc.now e in
+    ≡ cost_here c.args.search.now.index.now p c.args.mark c.args.sure c.args.order.now c.args.env.now =
+    doc_cost c.args.search.now.index.now p c.args.mark c.args.sure c.args.order.now c.args.env.now c.in-Some-OfDoc.doc.now e in
     let s : c.collect_pair.new.steps ≤ c.args.steps.now
-        + cost_here c.args.search.now.index.now p c.args.mark c.args.sure c.args.order.now c.args.env.now = search rules in
+    + cost_here c.args.search.now.index.now p c.args.mark c.args.sure c.args.order.now c.args.env.now = search rules in
     omega (arith, k, s)
 
 pub returns-in-Some-OfNote-clause-hits : goal.returns-in-Some-OfNote-clause-hits
@@ -110,8 +110,8 @@ returns-in-Some-OfNote-clause-hits g t c =
     let p = searched c.args.search.now in
     let e : lookup 0 c.args.env.now ≡ Some (OfNote c.in-Some-OfNote.field-0-0.now) = search rules in
     ap (keeping (length c.args.into.now.places.items) c.args.into.now.hits.items)
-      (sym (note_hits c.args.search.now.seen.now c.args.search.now.index.now p
-          c.args.mark c.args.order.now c.args.env.now (OfNote c.in-Some-OfNote.field-0-0.now) e (λ d z. absurd cc)))
+    (sym (note_hits c.args.search.now.seen.now c.args.search.now.index.now p
+    c.args.mark c.args.order.now c.args.env.now (OfNote c.in-Some-OfNote.field-0-0.now) e (λ d z. absurd cc)))
 
 pub collect_once-requires : goal.collect_once-requires
 collect_once-requires g t c κs within =
@@ -119,7 +119,7 @@ collect_once-requires g t c κs within =
     let p = searched c.args.search.now in
     let by = c.loop-row.invariant.next (row_of c.in-Some-next.row) in
     let v : IsLevel c.args.search.now.seen.now c.args.search.now.index.now p mark c.args.order.now c.args.env.now c.in-Some.level =
-        search rules in
+    search rules in
     let sure = v.sure (row_of c.in-Some-next.row) in
     let fewer = v.fewer in
     let fronts = c.loop-row.invariant.fronts in
@@ -134,12 +134,12 @@ returns-then-level-eq0-clause-hits g t c =
     let x = bind v (row_of c.in-Some-next.row) c.args.env.now in
     let z : v.0 ≡ 0 = search rules in
     let h : c.collect_once.new.into.hits.items ≡ keeping (length c.loop-row.into.places.items)
-        c.loop-row.into.hits.items (hits_over c.args.search.now.seen.now c.args.search.now.index.now p mark c.in-Some.level.rest.now x) =
-        search rules in
+    c.loop-row.into.hits.items (hits_over c.args.search.now.seen.now c.args.search.now.index.now p mark c.in-Some.level.rest.now x) =
+    search rules in
     let r : c.collect_once.result ≡ true = search rules in
     let by = c.collect_once.ensures.never r in
     let n : IsNever c.args.search.now.index.now query_var p.body x = search (rules, by) in
     let f = never_hits c.args.search.now.seen.now c.args.search.now.index.now p mark c.in-Some.level.rest.now c.args.env.now v
-        (row_of c.in-Some-next.row) z n c.next.new.self in
+    (row_of c.in-Some-next.row) z n c.next.new.self in
     let a = hits_end _ _ _ _ _ _ _ _ (row_of c.in-Some-next.row) c.loop-row.invariant.hits e h c.collect_once.ensures.places f in
     search (rules, a)

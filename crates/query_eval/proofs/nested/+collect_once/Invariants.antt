@@ -16,12 +16,12 @@ invariant-loop-row g l = record {
   hits : keeping (length l.fn.into.places.items)
       l.fn.into.hits.items (hits_over l.fn.search.seen.now l.fn.search.index.now (searched l.fn.search) l.fn.mark l.fn.order l.fn.env)
       ≡ keeping (length l.into.places.items) l.into.hits.items (flat_map (λ row. hits_over l.fn.search.seen.now l.fn.search.index.now
-          (searched l.fn.search) l.fn.mark l.level.rest.now (bind l.level.reach.var row l.fn.env)) l.rows);
+      (searched l.fn.search) l.fn.mark l.level.rest.now (bind l.level.reach.var row l.fn.env)) l.rows);
   ready : CanStoreHits l.into;
   places : length l.into.places.items ≡ length l.fn.into.places.items;
   fronts : AreDone l.fn.search l.into l.fronts;
   steps : l.steps + total (λ row. 1 + work_over l.fn.search.index.now (searched l.fn.search)
-        l.fn.mark l.level.sure l.level.rest.now (bind l.level.reach.var row l.fn.env)) l.rows
+      l.fn.mark l.level.sure l.level.rest.now (bind l.level.reach.var row l.fn.env)) l.rows
       ≤ l.fn.steps + work_over l.fn.search.index.now (searched l.fn.search) l.fn.mark l.fn.sure l.fn.order l.fn.env;
   more : l.fn.steps ≤ l.steps;
   next : (row : Row) → IsNearestIfKnown l.fn.search.probe.now.path (bind l.level.reach.var row l.fn.env) l.below;

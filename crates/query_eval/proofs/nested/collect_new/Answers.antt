@@ -10,17 +10,17 @@ returns-then-has_lower-clause-hits g c =
     let h : c.has_lower.result ≡ true = search rules in
     let by = c.has_lower.ensures h in
     let k : with_hit (length c.args.into.now.places.items) c.args.into.now.hits.items (record { doc = c.args.num; first = c.args.mark })
-        ≡ c.args.into.now.hits.items = search (rules, by) in
+    ≡ c.args.into.now.hits.items = search (rules, by) in
     left_out (length c.args.into.now.places.items) c.args.into.now.hits.items _ c.args.mark (Some c.args.num) c.args.num refl k
 
 pub returns-in-False-clause-hits : goal.returns-in-False-clause-hits
 returns-in-False-clause-hits g c =
     let x : holds_here c.args.search.now.index.now (searched c.args.search.now) c.args.mark c.args.order.now c.args.env.now ≡ false =
-        search rules in
+    search rules in
     not_passed (length c.args.into.now.places.items) c.args.into.now.hits.items _ c.args.mark (Some c.args.num) x
 
 pub returns-in-Never-clause-hits : goal.returns-in-Never-clause-hits
 returns-in-Never-clause-hits g c =
     let x : holds_here c.args.search.now.index.now (searched c.args.search.now) c.args.mark c.args.order.now c.args.env.now ≡ false =
-        search rules in
+    search rules in
     not_passed (length c.args.into.now.places.items) c.args.into.now.hits.items _ c.args.mark (Some c.args.num) x

@@ -17,8 +17,8 @@ loop-row-preserved g c =
     let p = searched c.args.search.now in
     let x = bind c.args.var (row_of c.in-Some.row) [] in
     let h : c.collect_at.new.into.hits.items ≡ keeping (length c.loop-row.into.places.items)
-        c.loop-row.into.hits.items (hits_at c.args.search.now.seen.now c.args.search.now.index.now c.args.w p c.args.order.now x) =
-        search rules in
+    c.loop-row.into.hits.items (hits_at c.args.search.now.seen.now c.args.search.now.index.now c.args.w p c.args.order.now x) =
+    search rules in
     let k : c.collect_at.new.steps ≤ c.next.new.steps + cost_at c.args.search.now.index.now c.args.w p c.args.order.now x = search rules in
     let i = c.loop-row.invariant.more in
     let m = c.collect_at.ensures.more in

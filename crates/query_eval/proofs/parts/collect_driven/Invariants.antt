@@ -15,9 +15,9 @@ abbrev pub invariant-loop-row : goal.invariant-loop-row
 invariant-loop-row g l = record {
   hits : keeping (length l.fn.into.places.items) l.fn.into.hits.items
       (flat_map (λ row. hits_at l.fn.search.seen.now l.fn.search.index.now l.fn.w (searched l.fn.search) l.fn.order (bind l.fn.var row []))
-        (walked l.fn.search.index.now l.fn.w (searched l.fn.search) l.fn.seek l.fn.var))
+      (walked l.fn.search.index.now l.fn.w (searched l.fn.search) l.fn.seek l.fn.var))
       ≡ keeping (length l.into.places.items) l.into.hits.items (flat_map
-        (λ row. hits_at l.fn.search.seen.now l.fn.search.index.now l.fn.w (searched l.fn.search) l.fn.order (bind l.fn.var row [])) l.rows);
+      (λ row. hits_at l.fn.search.seen.now l.fn.search.index.now l.fn.w (searched l.fn.search) l.fn.order (bind l.fn.var row [])) l.rows);
   ready : CanStoreHits l.into;
   places : length l.into.places.items ≡ length l.fn.into.places.items;
   fronts : AreDone l.fn.search l.into l.fronts;

@@ -17,7 +17,7 @@ returns-then-goes_by_list-clause-hits g c =
     let b : goes_by_list p c.args.seek c.args.var ≡ true = search rules in
     let e = listed_rows s.seen.now s.index.now c.args.w p c.args.order.now c.args.var c.args.seek b in
     let h : c.collect_listed.new.into.hits.items ≡ keeping (length c.args.into.now.places.items) c.args.into.now.hits.items
-        (flat_map (listed_hits s.seen.now c.args.w p c.args.var) (walked s.index.now c.args.w p c.args.seek c.args.var)) = search rules in
+    (flat_map (listed_hits s.seen.now c.args.w p c.args.var) (walked s.index.now c.args.w p c.args.seek c.args.var)) = search rules in
     h ∙ ap (keeping (length c.args.into.now.places.items) c.args.into.now.hits.items) (sym e)
 
 pub returns-then-goes_by_list-clause-steps : goal.returns-then-goes_by_list-clause-steps
@@ -37,4 +37,4 @@ returns-then-goes_by_list-clause-fronts g c =
     let hits = flat_map (listed_hits s.seen.now c.args.w p c.args.var) (walked s.index.now c.args.w p c.args.seek c.args.var) in
     let h : c.collect_listed.new.into.hits.items ≡ keeping n c.args.into.now.hits.items hits = search rules in
     passed_on s.seen.now s.index.now.docs n (length c.collect_listed.new.into.places.items) c.args.into.now.hits.items
-      c.collect_listed.new.into.hits.items c.args.fronts.now.fronts.items hits c.collect_listed.ensures.places h c.requires.fronts
+    c.collect_listed.new.into.hits.items c.args.fronts.now.fronts.items hits c.collect_listed.ensures.places h c.requires.fronts

@@ -45,14 +45,14 @@ loop-place-preserved g c =
     let o : c.order_at.result.now ≡ part_order part = c.order_at.ensures part s in
     let e : drop c.loop-place.place q.parts ≡ part ∷ drop (c.loop-place.place + 1) q.parts = rest_at q.parts c.loop-place.place part s in
     let h : c.collect_part.new.into.hits.items ≡ keeping (length c.loop-place.into.places.items)
-        c.loop-place.into.hits.items (seek_hits entries T w p c.order_at.result.now part.seek (seek_var part.seek)) = search rules in
+    c.loop-place.into.hits.items (seek_hits entries T w p c.order_at.result.now part.seek (seek_var part.seek)) = search rules in
     let k : c.collect_part.new.steps ≤ c.loop-place.steps + seek_cost T w p c.order_at.result.now part.seek (seek_var part.seek) =
-        search rules in
+    search rules in
     let h' : c.collect_part.new.into.hits.items ≡ keeping (length c.loop-place.into.places.items)
-        c.loop-place.into.hits.items (part_hits entries T w q.pool part) = h ∙ ap (λ z. keeping (length c.loop-place.into.places.items)
-          c.loop-place.into.hits.items (seek_hits entries T w p z part.seek (seek_var part.seek))) o in
+    c.loop-place.into.hits.items (part_hits entries T w q.pool part) = h ∙ ap (λ z. keeping (length c.loop-place.into.places.items)
+    c.loop-place.into.hits.items (seek_hits entries T w p z part.seek (seek_var part.seek))) o in
     let k' : c.collect_part.new.steps ≤ c.loop-place.steps + part_cost T w q.pool part =
-        subst (λ z. c.collect_part.new.steps ≤ c.loop-place.steps + seek_cost T w p z part.seek (seek_var part.seek)) o k in
+    subst (λ z. c.collect_part.new.steps ≤ c.loop-place.steps + seek_cost T w p z part.seek (seek_var part.seek)) o k in
     let i = c.loop-place.invariant.more in
     let m = c.collect_part.ensures.more in
     record {

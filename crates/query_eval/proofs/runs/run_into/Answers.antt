@@ -20,11 +20,11 @@ returns-clause-hits g c =
     let q = c.args.plan.now.query in
     let r : length c.args.index.now.docs ≤ length c.clear.new.self.places.items = search (rules, arith) in
     let k : c.collect_parts.new.into.hits.items ≡ lowest [] (query_hits c.args.seen.now c.args.index.now c.args.w q) =
-        hits_kept q c.args.seen.now c.args.index.now c.args.w _ _ _ c.requires.run.probes c.docs-docs.ensures.places.numbered r
-        c.clear.ensures.hits c.collect_parts.ensures.hits in
+    hits_kept q c.args.seen.now c.args.index.now c.args.w _ _ _ c.requires.run.probes c.docs-docs.ensures.places.numbered r
+    c.clear.ensures.hits c.collect_parts.ensures.hits in
     c.finish.ensures.meaning (was_seen c.args.seen.now) (ranged_probes q)
-      c.args.index.now c.args.w (query_hits c.args.seen.now c.args.index.now c.args.w q) k
-      c.docs-docs.ensures.arrived (query_found q c.requires.run.probes c.args.seen.now c.args.index.now c.args.w)
+    c.args.index.now c.args.w (query_hits c.args.seen.now c.args.index.now c.args.w q) k
+    c.docs-docs.ensures.arrived (query_found q c.requires.run.probes c.args.seen.now c.args.index.now c.args.w)
 
 pub returns-clause-quiet : goal.returns-clause-quiet
 returns-clause-quiet g c = taken_quiet c.args.plan.now.query c.requires.run.probes c.args.index.now c.args.w _ _

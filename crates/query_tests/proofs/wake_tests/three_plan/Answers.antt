@@ -7,4 +7,4 @@ use Rattle.query_tests.proofs.wake_tests.three_plan.Goals as goal
 pub returns : goal.returns
 returns c =
     IfOk-weaker c.plan.result (λ (p : Plan). p.query ≡ c.in_ok-three_query.field-0) (λ (p : Plan). HasValidProbes p.query)
-        (λ p e. subst HasValidProbes (sym e) c.in_ok-three_query.ensures) c.plan.ensures.query
+    (λ p e. subst HasValidProbes (sym e) c.in_ok-three_query.ensures) c.plan.ensures.query

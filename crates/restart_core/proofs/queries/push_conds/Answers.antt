@@ -6,8 +6,8 @@ use Rattle.restart_core.proofs.queries.push_conds.Goals as goal
 pub returns-in_err-read_query-clause-fault : goal.returns-in_err-read_query-clause-fault
 returns-in_err-read_query-clause-fault c =
     let here = damage-here c.args.queries.now c.loop-i.i (to_z w64 c.loop-i.low-bits)
-        c.index-queries-i.result (queries_damage [] 1 (pos 0) c.args.queries.now)
-        c.in_err-read_query.field-0.0 c.loop-i-test.true c.index-queries-i.is c.loop-i.invariant.left
+    c.index-queries-i.result (queries_damage [] 1 (pos 0) c.args.queries.now)
+    c.in_err-read_query.field-0.0 c.loop-i-test.true c.index-queries-i.is c.loop-i.invariant.left
     (c.in_err-read_query.ensures.fault (take c.loop-i.i c.args.queries.now) c.loop-i.invariant.names) in
     search (rules, here)
 

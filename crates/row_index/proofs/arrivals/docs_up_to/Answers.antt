@@ -8,5 +8,5 @@ pub returns : goal.returns
 returns c =
     let parted = up_to_first doc_arrival c.args.last _ c.requires in
     let point = IsPartitionPoint-from_clause (λ x. int_le x.arrival c.args.last) _ _ c.partition_point_from_end.ensures.partitioned parted
-        (λ a r q k. search rules) in
+    (λ a r q k. search rules) in
     front_passes _ _ _ c.partition_point_from_end.ensures.bound point

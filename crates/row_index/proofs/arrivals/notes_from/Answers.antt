@@ -8,5 +8,5 @@ pub returns : goal.returns
 returns c =
     let parted = before_first note_arrival c.args.moment _ c.requires in
     let point = IsPartitionPoint-from_clause (λ x. int_lt x.arrival c.args.moment) _ _ c.partition_point_from_end.ensures.partitioned parted
-        (λ a r q k. search rules) in
+    (λ a r q k. search rules) in
     rest_as_taken _ _ _ c.partition_point_from_end.ensures.bound point

@@ -8,5 +8,5 @@ pub returns : goal.returns
 returns c =
     let parted = before_first (place_arrival c.args.docs.now) c.args.moment _ c.requires in
     let point = IsPartitionPoint-from_clause (λ x. int_lt (place_arrival c.args.docs.now x) c.args.moment) _ _
-        c.partition_point_from_end.ensures.partitioned parted (λ a r q k. search rules) in
+    c.partition_point_from_end.ensures.partitioned parted (λ a r q k. search rules) in
     front_passes _ _ _ c.partition_point_from_end.ensures.bound point

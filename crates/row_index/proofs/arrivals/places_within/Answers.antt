@@ -9,7 +9,7 @@ places_from-requires c = rising_left (place_arrival c.args.docs.now) _ _ _ c.req
 pub returns : goal.returns
 returns c =
     let before : c.places_before.result.now ≡ filter (λ x. int_lt (place_arrival c.args.docs.now x) c.args.high) c.args.places.now =
-        search rules in
+    search rules in
     let within : c.places_from.result.now
-        ≡ filter (λ x. not (int_lt (place_arrival c.args.docs.now x) c.args.low)) c.places_before.result.now = search rules in
+    ≡ filter (λ x. not (int_lt (place_arrival c.args.docs.now x) c.args.low)) c.places_before.result.now = search rules in
     window_of (place_arrival c.args.docs.now) c.args.low c.args.high _ _ _ before within

@@ -20,8 +20,8 @@ returns-then-pred-clause-partitioned g c =
     let n = answers_next g.P.FnMut _ _ _ _ _ made i.0 in
     let passes = at_read xs (λ y. p y ≡ true) start c.index-rows-start.result (omega arith) c.index-rows-start.is (sym n.0) in
     cut_of_part p xs part (start + 1) (end - (start + 1)) c.partition_point.result (omega arith)
-      c.partition_point.ensures.bound (passes_to p xs part start (omega arith) passes) (λ k d a b. i.1 k d (omega (arith, a)) b)
-      (c.partition_point.ensures.partitioned p n.1)
+    c.partition_point.ensures.bound (passes_to p xs part start (omega arith) passes) (λ k d a b. i.1 k d (omega (arith, a)) b)
+    (c.partition_point.ensures.partitioned p n.1)
 
 pub loop-width-preserved : goal.loop-width-preserved
 loop-width-preserved g c =
@@ -45,4 +45,4 @@ returns-clause-partitioned g c =
     λ p h part.
     let i = c.loop-width.invariant.4 p h part in
     cut_of_front p xs part c.loop-width.end c.partition_point-2.result c.loop-width.invariant.0 c.partition_point-2.ensures.bound i.1
-      (c.partition_point-2.ensures.partitioned p i.0)
+    (c.partition_point-2.ensures.partitioned p i.0)

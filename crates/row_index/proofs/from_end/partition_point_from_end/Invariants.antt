@@ -14,7 +14,7 @@ invariant-loop-width g l =
     × (l.width + l.end ≤ length l.rows + 1)
     × always_mut g.P.FnMut l.pred
     × ((p : g.row.T.Denot → Bool) → ComputesKey g.P.FnMut p l.initial.pred → IsPartitionedBy p l.rows
-          → ComputesKey g.P.FnMut p l.pred × AllWithin (λ y. p y ≡ false) l.rows l.end (length l.rows))
+    → ComputesKey g.P.FnMut p l.pred × AllWithin (λ y. p y ≡ false) l.rows l.end (length l.rows))
 
 abbrev pub decreases-loop-width : goal.decreases-loop-width
 decreases-loop-width g l = l.end

@@ -9,5 +9,5 @@ pub returns : goal.returns
 returns c =
     let parted = no_greater_first (place_number c.args.docs.now) c.args.num.0 _ c.requires in
     let point = IsPartitionPoint-from_clause (λ x. nat_le (place_number c.args.docs.now x) c.args.num.0) _ _
-        c.partition_point.ensures.partitioned parted (λ a r q k. search rules) in
+    c.partition_point.ensures.partitioned parted (λ a r q k. search rules) in
     rest_as_taken _ _ _ c.partition_point.ensures.bound point ∙ above_is (place_number c.args.docs.now) c.args.num.0 c.args.places.now

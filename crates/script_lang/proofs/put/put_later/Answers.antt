@@ -11,5 +11,5 @@ pub returns-in-Err : goal.returns-in-Err
 returns-in-Err g c =
     let w : c.try_extend_from_slice.new.self.items ≡ c.args.waiting.now.items = search rules in
     subst (λ xs. Waits g.K.Sink c.args.start (xs ++ c.args.bytes.now)
-        c.put_both.new.waiting.items c.args.sink.now c.put_both.new.sink c.put_both.result) w
+    c.put_both.new.waiting.items c.args.sink.now c.put_both.new.sink c.put_both.result) w
     (none_waits c.put_both.ensures.none c.put_both.ensures.put)

@@ -8,4 +8,4 @@ pub loop-word-preserved : goal.loop-word-preserved
 loop-word-preserved c =
     let text = subst IsUtf8 (sym c.in_ok-from_slice.ensures) c.as_bytes.ensures.utf8 in
     subst (λ (words : List (List ℕ)). All IsUtf8 words) (sym c.in_ok-push.ensures.ok)
-        (All-push IsUtf8 c.loop-word.words c.in_ok-from_slice.field-0 c.loop-word.invariant text)
+    (All-push IsUtf8 c.loop-word.words c.in_ok-from_slice.field-0 c.loop-word.invariant text)

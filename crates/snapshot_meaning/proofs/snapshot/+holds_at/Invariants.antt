@@ -14,10 +14,10 @@ abbrev pub invariant-loop-doc : goal.invariant-loop-doc
 invariant-loop-doc l =
     truth (visible (seen l.docs l.notes) l.s) l.s (condition l.cond) l.env
     ≡ list_any (λ row. truth (visible (seen l.docs l.notes) l.s) l.s (condition l.x.value) (bind l.v row l.env))
-      (map OfDoc (filter (λ doc. int_le doc.arrival l.s) (drop l.doc-index l.docs)))
+    (map OfDoc (filter (λ doc. int_le doc.arrival l.s) (drop l.doc-index l.docs)))
 
 abbrev pub invariant-loop-note : goal.invariant-loop-note
 invariant-loop-note l =
     truth (visible (seen l.docs l.notes) l.s) l.s (condition l.cond) l.env
     ≡ list_any (λ row. truth (visible (seen l.docs l.notes) l.s) l.s (condition l.x.value) (bind l.v row l.env))
-      (map OfNote (filter (λ note. int_le note.arrival l.s) (drop l.note-index l.notes)))
+    (map OfNote (filter (λ note. int_le note.arrival l.s) (drop l.note-index l.notes)))

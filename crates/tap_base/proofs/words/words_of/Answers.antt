@@ -10,4 +10,4 @@ into_texts_from-requires c =
 pub returns-clause-ok : goal.returns-clause-ok
 returns-clause-ok c =
     c.in_ok-append.ensures.ok ∙ appended c.args.into.now c.in_ok-set.set c.add.new.self (words c.args.bytes.now) c.in_ok-missing.missing
-      c.in_ok-set.ensures c.in_ok-add.ensures (c.in_ok-missing.ensures ∙ ap (λ k. drop k c.add.new.self) c.len-held.ensures)
+    c.in_ok-set.ensures c.in_ok-add.ensures (c.in_ok-missing.ensures ∙ ap (λ k. drop k c.add.new.self) c.len-held.ensures)

@@ -8,7 +8,7 @@ use Rattle.tap_engine.proofs.mbox.push_docs.Goals as goal
 
 pub push_doc-requires-clause-short : goal.push_doc-requires-clause-short
 push_doc-requires-clause-short c = (push-short c.args.texts.now c.text-item.result c.loop-text.text-index c.loop-text-test.true
-      c.text-item.is c.loop-text.invariant.short).0
+    c.text-item.is c.loop-text.invariant.short).0
 
 pub loop-text-preserved : goal.loop-text-preserved
 loop-text-preserved c =

@@ -27,4 +27,4 @@ pub returns : goal.returns
 returns c =
     let pushed = c.in_ok-push_queries.ensures ∙ ap (λ (l : List CachedQuery). l ++ map never_run c.args.rows) c.requires.none in
     c.in_ok-deliver.ensures
-      ∙ ap (map (cached_query (runs_alone c.args.runs.now c.args.picks.now))) (ap rows_in pushed ∙ never-run c.args.rows)
+    ∙ ap (map (cached_query (runs_alone c.args.runs.now c.args.picks.now))) (ap rows_in pushed ∙ never-run c.args.rows)

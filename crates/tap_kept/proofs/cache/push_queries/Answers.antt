@@ -23,7 +23,9 @@ pub returns : goal.returns
 returns c =
     let rows = into_iter_items (zip_first c.loop-row.row-iterator) in
     let conds = into_iter_items (zip_second c.loop-row.row-iterator) in
-    let left : (length rows ≡ 0) ⊎ (length conds ≡ 0) = elim c.in-None.ensures.steps [ inl s ↦ inl (sym c.loop-row.invariant.rows ∙ s.1.0)
-          | inr s ↦ inr (sym c.loop-row.invariant.more ∙ s.1.0) ] in
+    let left : (length rows ≡ 0) ⊎ (length conds ≡ 0) = elim c.in-None.ensures.steps [
+      | inl s ↦ inl (sym c.loop-row.invariant.rows ∙ s.1.0)
+      | inr s ↦ inr (sym c.loop-row.invariant.more ∙ s.1.0)
+    ] in
     sym (c.loop-row.invariant.all ∙ ap (λ some. c.loop-row.queries ++ map never_run some)
-        (none-left rows conds c.loop-row.invariant.conds left) ∙ append-nil c.loop-row.queries)
+    (none-left rows conds c.loop-row.invariant.conds left) ∙ append-nil c.loop-row.queries)

@@ -17,21 +17,21 @@ unfolding no-pick
 add_pick-requires-clause-query c =
     let pick = slice_index_or c.args.picks.now c.loop-pick.pick-index no-pick in
     let has = each-at (λ pick. HasRun pick.run pick.query.0 c.args.runs.now) c.loop-pick.pick-index c.args.picks.now no-pick
-        c.requires.deliveries.picked c.loop-pick-test.true in
+    c.requires.deliveries.picked c.loop-pick-test.true in
     let rows = rows_in c.args.queries.now in
     let f = cached_query (runs_alone c.args.runs.now (take c.loop-pick.pick-index c.args.picks.now)) in
     let len = ap length c.loop-pick.invariant ∙ length-map rows f ∙ length-map c.args.queries.now (λ kept. kept.row) in
     subst (λ n. IsRowNumber pick.query.0 n) (sym len)
-      (has-owned pick.run pick.query.0 (length c.args.queries.now) c.args.runs.now c.requires.owned has)
+    (has-owned pick.run pick.query.0 (length c.args.queries.now) c.args.runs.now c.requires.owned has)
 
 pub add_pick-requires-clause-run : goal.add_pick-requires-clause-run
 unfolding no-pick
 add_pick-requires-clause-run c =
     let pick = slice_index_or c.args.picks.now c.loop-pick.pick-index no-pick in
     let has = each-at (λ pick. HasRun pick.run pick.query.0 c.args.runs.now) c.loop-pick.pick-index c.args.picks.now no-pick
-        c.requires.deliveries.picked c.loop-pick-test.true in
+    c.requires.deliveries.picked c.loop-pick-test.true in
     let len = ap length (c.deref.ensures.value ∙ c.in_ok-ordinals.ensures.ordinals)
-        ∙ length-map c.args.runs.now (ordinal_in c.args.runs.now) in
+    ∙ length-map c.args.runs.now (ordinal_in c.args.runs.now) in
     subst (λ n. IsRowNumber pick.run n) (sym len) (run-within pick.run pick.query.0 c.args.runs.now c.requires.deliveries.numbered has)
 
 pub add_pick-requires-clause-unseen : goal.add_pick-requires-clause-unseen
@@ -42,11 +42,11 @@ add_pick-requires-clause-unseen c = λ d.
     let i = c.loop-pick.pick-index in
     let pick = slice_index_or c.args.picks.now i no-pick in
     let has =
-        each-at (λ pick. HasRun pick.run pick.query.0 runs) i c.args.picks.now no-pick c.requires.deliveries.picked c.loop-pick-test.true in
+    each-at (λ pick. HasRun pick.run pick.query.0 runs) i c.args.picks.now no-pick c.requires.deliveries.picked c.loop-pick-test.true in
     let one = has-owned pick.run pick.query.0 (length c.args.queries.now) runs c.requires.owned has in
     let of-rows = subst (λ n. IsRowNumber pick.query.0 n) (sym (length-map c.args.queries.now (λ kept. kept.row))) one in
     pick-unseen rows runs (take i c.args.picks.now) pick c.loop-pick.queries d c.requires.numbered of-rows
-      c.loop-pick.invariant (once-at c.args.picks.now i no-pick c.requires.deliveries.once c.loop-pick-test.true)
+    c.loop-pick.invariant (once-at c.args.picks.now i no-pick c.requires.deliveries.once c.loop-pick-test.true)
 
 pub loop-pick-preserved : goal.loop-pick-preserved
 unfolding no-pick
@@ -57,10 +57,10 @@ loop-pick-preserved c =
     let before = take i c.args.picks.now in
     let pick = slice_index_or c.args.picks.now i no-pick in
     let has =
-        each-at (λ pick. HasRun pick.run pick.query.0 runs) i c.args.picks.now no-pick c.requires.deliveries.picked c.loop-pick-test.true in
+    each-at (λ pick. HasRun pick.run pick.query.0 runs) i c.args.picks.now no-pick c.requires.deliveries.picked c.loop-pick-test.true in
     let one = has-owned pick.run pick.query.0 (length c.args.queries.now) runs c.requires.owned has in
     let of-rows = subst (λ n. IsRowNumber pick.query.0 n) (sym (length-map c.args.queries.now (λ kept. kept.row))) one in
     pick-joins rows runs before pick
-      c.loop-pick.queries c.add_pick.new.queries c.deref.result.now c.requires.numbered c.requires.deliveries.numbered of-rows has
-      c.loop-pick.invariant (c.deref.ensures.value ∙ c.in_ok-ordinals.ensures.ordinals) c.in_ok-add_pick.ensures
+    c.loop-pick.queries c.add_pick.new.queries c.deref.result.now c.requires.numbered c.requires.deliveries.numbered of-rows has
+    c.loop-pick.invariant (c.deref.ensures.value ∙ c.in_ok-ordinals.ensures.ordinals) c.in_ok-add_pick.ensures
     ∙ ap (λ some. map (cached_query (runs_alone runs some)) rows) (sym (before-on i c.args.picks.now no-pick c.loop-pick-test.true))

@@ -10,7 +10,7 @@ loop-hit-preserved c =
     let d : Hit = record { doc = record { 0 = 0 }; first = pos 0 } in
     let inv = c.loop-hit.invariant in
     let is : c.add_entry.new.entries
-        ≡ c.loop-hit.entries ++ entry_at c.args.run (slice_index_or c.args.hits.now c.loop-hit.hit-index d) ∷ [] = search rules in
+    ≡ c.loop-hit.entries ++ entry_at c.args.run (slice_index_or c.args.hits.now c.loop-hit.hit-index d) ∷ [] = search rules in
     let added = one-added c.args.entries.now c.loop-hit.entries c.add_entry.new.entries c.args.run c.loop-hit.hit-index c.args.hits.now d
-        c.loop-hit-test.true is inv.all inv.back inv.more inv.new in
+    c.loop-hit-test.true is inv.all inv.back inv.more inv.new in
     record { all = added.all; back = added.back; new = added.new; more = added.more }

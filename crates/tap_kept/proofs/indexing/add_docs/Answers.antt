@@ -17,10 +17,10 @@ add_doc-requires-clause-after c =
     let rest : List Doc = into_iter_items c.next.new.self in
     let items : into_iter_items c.loop-doc.doc-iterator ≡ c.in-Some.doc ∷ rest = search rules in
     let left : FollowInOrder doc_number doc_arrival now.docs (c.in-Some.doc ∷ rest) =
-        subst (λ l. FollowInOrder doc_number doc_arrival now.docs l) items c.loop-doc.invariant.left in
+    subst (λ l. FollowInOrder doc_number doc_arrival now.docs l) items c.loop-doc.invariant.left in
     let at : c.in_ok-keep.field-0 ≡ c.in-Some.doc = search rules in
     subst (λ z. Each (λ (other : Doc). other.arrival ≤ℤ z) now.docs) (sym (ap (λ (d : Doc). d.arrival) at))
-        (left-after doc_number doc_arrival now.docs c.in-Some.doc rest left)
+    (left-after doc_number doc_arrival now.docs c.in-Some.doc rest left)
 
 pub loop-doc-preserved : goal.loop-doc-preserved
 loop-doc-preserved c =
@@ -28,10 +28,10 @@ loop-doc-preserved c =
     let rest : List Doc = into_iter_items c.next.new.self in
     let items : into_iter_items c.loop-doc.doc-iterator ≡ c.in-Some.doc ∷ rest = search rules in
     let left : FollowInOrder doc_number doc_arrival now.docs (c.in-Some.doc ∷ rest) =
-        subst (λ l. FollowInOrder doc_number doc_arrival now.docs l) items c.loop-doc.invariant.left in
+    subst (λ l. FollowInOrder doc_number doc_arrival now.docs l) items c.loop-doc.invariant.left in
     let at : c.in_ok-keep.field-0 ≡ c.in-Some.doc = search rules in
     let new : c.add_doc.new.self ≡ after now (Docs (c.in-Some.doc ∷ [])) = c.in_ok-add_doc.ensures.ok
-        ∙ ap (λ (d : Doc). after now (Docs (d ∷ []))) at in
+    ∙ ap (λ (d : Doc). after now (Docs (d ∷ []))) at in
     record {
       len = search rules;
       all = c.loop-doc.invariant.all ∙ ap (λ l. after now (Docs l)) items ∙ docs-next now c.add_doc.new.self c.in-Some.doc rest new;

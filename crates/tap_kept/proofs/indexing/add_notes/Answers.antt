@@ -15,7 +15,7 @@ add_note-requires-clause-after c =
     let rest : List Note = into_iter_items c.next.new.self in
     let items : into_iter_items c.loop-note.note-iterator ≡ c.in-Some.note ∷ rest = search rules in
     let left : FollowInOrder note_number note_arrival now.notes (c.in-Some.note ∷ rest) =
-        subst (λ l. FollowInOrder note_number note_arrival now.notes l) items c.loop-note.invariant.left in
+    subst (λ l. FollowInOrder note_number note_arrival now.notes l) items c.loop-note.invariant.left in
     left-after note_number note_arrival now.notes c.in-Some.note rest left
 
 pub loop-note-preserved : goal.loop-note-preserved
@@ -24,7 +24,7 @@ loop-note-preserved c =
     let rest : List Note = into_iter_items c.next.new.self in
     let items : into_iter_items c.loop-note.note-iterator ≡ c.in-Some.note ∷ rest = search rules in
     let left : FollowInOrder note_number note_arrival now.notes (c.in-Some.note ∷ rest) =
-        subst (λ l. FollowInOrder note_number note_arrival now.notes l) items c.loop-note.invariant.left in
+    subst (λ l. FollowInOrder note_number note_arrival now.notes l) items c.loop-note.invariant.left in
     let new : c.add_note.new.self ≡ after now (OneNote c.in-Some.note) = search rules in
     record {
       len = search rules;

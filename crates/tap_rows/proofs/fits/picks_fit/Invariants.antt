@@ -9,4 +9,4 @@ abbrev pub invariant-loop-i : goal.invariant-loop-i
 invariant-loop-i l =
     picks_stand (l.runs ++ l.run ∷ []) l.docs l.stored (length l.stored + 1) (last_row l.stored) l.picks
     ≡ picks_stand (l.runs ++ l.run ∷ []) l.docs (l.stored ++ take l.i l.picks) (length l.stored + 1 + l.i) (option_copied l.before)
-      (drop l.i l.picks)
+    (drop l.i l.picks)

@@ -15,7 +15,7 @@ pub returns-in-Ok-put_reply-clause-ok : goal.returns-in-Ok-put_reply-clause-ok
 returns-in-Ok-put_reply-clause-ok g c = λ t honest at.
     let step = c.in-Ok.ensures.step t at.represents (sound-for c.args.command t c.args.engine.now.session at.sound) in
     let there : EngineMatchesKeeper c.perform.new.self (g.P.Keeper.tells c.perform.new.keeper) (g.P.Keeper.may_leave c.perform.new.keeper)
-        (next_tables c.args.command c.in-Ok.reply c.args.engine.now.session t) =
+    (next_tables c.args.command c.in-Ok.reply c.args.engine.now.session t) =
     record {
       represents = c.in-Ok.ensures.represents t at.represents (sound-for c.args.command t c.args.engine.now.session at.sound);
       sound = step-sound t c.args.engine.now.session c.args.command c.in-Ok.reply
@@ -23,15 +23,15 @@ returns-in-Ok-put_reply-clause-ok g c = λ t honest at.
       holds = c.in-Ok.ensures.kept t at.represents (sound-for c.args.command t c.args.engine.now.session at.sound) honest at.holds;
     } in
     Answered-one t _ c.args.command c.in-Ok.reply _ _
-      (EngineMatchesKeeper c.perform.new.self (g.P.Keeper.tells c.perform.new.keeper) (g.P.Keeper.may_leave c.perform.new.keeper)) _ _
-      c.is_ok.result at.sound step c.in-Ok-put_reply.ensures.ok c.is_ok.ensures there
+    (EngineMatchesKeeper c.perform.new.self (g.P.Keeper.tells c.perform.new.keeper) (g.P.Keeper.may_leave c.perform.new.keeper)) _ _
+    c.is_ok.result at.sound step c.in-Ok-put_reply.ensures.ok c.is_ok.ensures there
 
 pub returns-clause-put : goal.returns-clause-put
 returns-clause-put g c = λ _ t honest at.
     CutOff-one t _ c.args.command c.in-Ok.reply _ _ _ (next_tables c.args.command c.in-Ok.reply c.args.engine.now.session t) _
-      c.in-Err.field-0 at.sound (c.in-Ok.ensures.step t at.represents (sound-for c.args.command t c.args.engine.now.session at.sound))
-      c.in-Err.ensures.err
-      (c.in-Ok.ensures.kept t at.represents (sound-for c.args.command t c.args.engine.now.session at.sound) honest at.holds)
+    c.in-Err.field-0 at.sound (c.in-Ok.ensures.step t at.represents (sound-for c.args.command t c.args.engine.now.session at.sound))
+    c.in-Err.ensures.err
+    (c.in-Ok.ensures.kept t at.represents (sound-for c.args.command t c.args.engine.now.session at.sound) honest at.holds)
 
 pub returns-in-Err-KeeperFailed-clause-frame : goal.returns-in-Err-KeeperFailed-clause-frame
 returns-in-Err-KeeperFailed-clause-frame g c = record {

@@ -30,25 +30,25 @@ loop-rest-preserved g c = record {
   version = λ t honest at v has.
       let fed = (c.loop-rest.invariant.feeding t (c.in-Ok.ensures.frame.keeper.before honest) at).answered_piece.answered in
       c.in-Ok.ensures.frame.version fed.tables' honest fed.ends c.in-Ok.ensures.can.attached.running v
-        (c.loop-rest.invariant.version t (c.in-Ok.ensures.frame.keeper.before honest) at v has);
+      (c.loop-rest.invariant.version t (c.in-Ok.ensures.frame.keeper.before honest) at v has);
 }
 
 pub returns-in-Err-Put-clause-put : goal.returns-in-Err-Put-clause-put
 returns-in-Err-Put-clause-put g c = λ _ t honest at.
     Feeding-cut _ _ _ _ t _ _ _ _ _ _ _ _ (c.loop-rest.invariant.feeding t (c.in-Err-Put.ensures.frame.keeper.before honest) at)
-      (λ t1 there. c.in-Err-Put.ensures.put (ap Err c.in-Err-Put.field-0-is) t1 honest there)
+    (λ t1 there. c.in-Err-Put.ensures.put (ap Err c.in-Err-Put.field-0-is) t1 honest there)
 
 pub returns-in-Err-Keeper-clause-uncommitted : goal.returns-in-Err-Keeper-clause-uncommitted
 returns-in-Err-Keeper-clause-uncommitted g c = λ _ t honest at.
     Feeding-uncommitted _ _ _ _ t _ _ _ _ _ _ _ _ (c.loop-rest.invariant.feeding t (c.in-Err-Keeper.ensures.frame.keeper.before honest) at)
-      (λ t1 there. c.in-Err-Keeper.ensures.uncommitted (ap Err c.in-Err-Keeper.field-0-is) t1 honest there)
+    (λ t1 there. c.in-Err-Keeper.ensures.uncommitted (ap Err c.in-Err-Keeper.field-0-is) t1 honest there)
 
 pub returns-in-Err-Memory-clause-memory : goal.returns-in-Err-Memory-clause-memory
 returns-in-Err-Memory-clause-memory g c = λ _ t honest at.
     let same = c.in-Err-Memory.ensures.memory (ap Err c.in-Err-Memory.field-0-is) in
     Feeding-short _ _ _ _ t _ _ _ _ _ _ _ _
-      (λ x there. subst (λ k. IsDurable (g.P.Keeper.tells k) (g.P.Keeper.may_leave k) x) (sym same.0) there.holds)
-      same.1.1 (c.loop-rest.invariant.feeding t (c.in-Err-Memory.ensures.frame.keeper.before honest) at)
+    (λ x there. subst (λ k. IsDurable (g.P.Keeper.tells k) (g.P.Keeper.may_leave k) x) (sym same.0) there.holds)
+    same.1.1 (c.loop-rest.invariant.feeding t (c.in-Err-Memory.ensures.frame.keeper.before honest) at)
 
 pub returns-in-Err-Put-clause-frame : goal.returns-in-Err-Put-clause-frame
 returns-in-Err-Put-clause-frame g c = record {
@@ -57,7 +57,7 @@ returns-in-Err-Put-clause-frame g c = record {
   version = λ t honest at runs v has.
       let fed = (c.loop-rest.invariant.feeding t (c.in-Err-Put.ensures.frame.keeper.before honest) at).answered_piece.answered in
       c.in-Err-Put.ensures.frame.version fed.tables' honest fed.ends runs v
-        (c.loop-rest.invariant.version t (c.in-Err-Put.ensures.frame.keeper.before honest) at v has);
+      (c.loop-rest.invariant.version t (c.in-Err-Put.ensures.frame.keeper.before honest) at v has);
 }
 
 pub returns-in-Err-Keeper-clause-frame : goal.returns-in-Err-Keeper-clause-frame
@@ -67,7 +67,7 @@ returns-in-Err-Keeper-clause-frame g c = record {
   version = λ t honest at runs v has.
       let fed = (c.loop-rest.invariant.feeding t (c.in-Err-Keeper.ensures.frame.keeper.before honest) at).answered_piece.answered in
       c.in-Err-Keeper.ensures.frame.version fed.tables' honest fed.ends runs v
-        (c.loop-rest.invariant.version t (c.in-Err-Keeper.ensures.frame.keeper.before honest) at v has);
+      (c.loop-rest.invariant.version t (c.in-Err-Keeper.ensures.frame.keeper.before honest) at v has);
 }
 
 pub returns-in-Err-Memory-clause-frame : goal.returns-in-Err-Memory-clause-frame
@@ -77,7 +77,7 @@ returns-in-Err-Memory-clause-frame g c = record {
   version = λ t honest at runs v has.
       let fed = (c.loop-rest.invariant.feeding t (c.in-Err-Memory.ensures.frame.keeper.before honest) at).answered_piece.answered in
       c.in-Err-Memory.ensures.frame.version fed.tables' honest fed.ends runs v
-        (c.loop-rest.invariant.version t (c.in-Err-Memory.ensures.frame.keeper.before honest) at v has);
+      (c.loop-rest.invariant.version t (c.in-Err-Memory.ensures.frame.keeper.before honest) at v has);
 }
 
 pub returns-clause-frame : goal.returns-clause-frame

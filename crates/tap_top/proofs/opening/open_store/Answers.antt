@@ -31,7 +31,7 @@ returns-in-Ok-clause-represents g c =
     if-ok c.start.result (λ engine. Represents engine c.in-Ok.tables)
     (λ engine. IfTold g.P.Keeper c.args.keeper.now c.attach.new.self (λ t. Represents engine t))
     (λ engine represents. λ honest t told.
-      subst (λ (u : Tables). Represents engine u) (sym (c.in-Ok.ensures.given honest t told)) represents)
+    subst (λ (u : Tables). Represents engine u) (sym (c.in-Ok.ensures.given honest t told)) represents)
     c.start.ensures.represents
 
 pub returns-in-Ok-clause-short : goal.returns-in-Ok-clause-short
@@ -43,9 +43,9 @@ pub returns-in-Ok-clause-sure : goal.returns-in-Ok-clause-sure
 returns-in-Ok-clause-sure g c =
     on-ok c.start.result (row_fault c.in-Ok.tables ≡ None)
     (IfTold g.P.Keeper c.args.keeper.now c.attach.new.self (λ t. (v : ℤ) → g.P.Keeper.has_version c.args.keeper.now v
-      → fault_of v t ≡ None))
+    → fault_of v t ≡ None))
     (λ none. λ honest t told v has.
-      no-fault t c.in-Ok.tables v (c.in-Ok.ensures.given honest t told) none (c.in-Ok.ensures.known honest v has))
+    no-fault t c.in-Ok.tables v (c.in-Ok.ensures.given honest t told) none (c.in-Ok.ensures.known honest v has))
     c.start.ensures.sure
 
 pub returns-in-Ok-clause-version : goal.returns-in-Ok-clause-version
@@ -66,19 +66,19 @@ pub returns-in-Ok-clause-migrated : goal.returns-in-Ok-clause-migrated
 returns-in-Ok-clause-migrated g c =
     each-refused c.start.result
     (IfTold g.P.Keeper c.args.keeper.now c.attach.new.self (λ t. (v : ℤ) → g.P.Keeper.has_version c.args.keeper.now v
-      → IsMigrated v (g.P.Keeper.has_version c.attach.new.self)))
+    → IsMigrated v (g.P.Keeper.has_version c.attach.new.self)))
     (λ honest t told v has. known-migrated v (g.P.Keeper.has_version c.attach.new.self) (c.in-Ok.ensures.known honest v has)
     (c.in-Ok.ensures.version honest t
-      (c.in-Ok.ensures.kept honest t told (not-stopped (g.P.Keeper.stopped c.attach.new.self) c.in-Ok.ensures.stopped.0 (λ e. cc))).told))
+    (c.in-Ok.ensures.kept honest t told (not-stopped (g.P.Keeper.stopped c.attach.new.self) c.in-Ok.ensures.stopped.0 (λ e. cc))).told))
 
 pub returns-in-Ok-clause-memory : goal.returns-in-Ok-clause-memory
 returns-in-Ok-clause-memory g c =
     λ _ honest t told v has. known-may v (g.P.Keeper.has_version c.attach.new.self) (c.in-Ok.ensures.known honest v has)
     (c.in-Ok.ensures.version honest t
-      (c.in-Ok.ensures.kept honest t told (not-stopped (g.P.Keeper.stopped c.attach.new.self) c.in-Ok.ensures.stopped.0 (λ e. cc))).told)
+    (c.in-Ok.ensures.kept honest t told (not-stopped (g.P.Keeper.stopped c.attach.new.self) c.in-Ok.ensures.stopped.0 (λ e. cc))).told)
 
 pub returns-in-Err-Alien-clause-migrated : goal.returns-in-Err-Alien-clause-migrated
 returns-in-Err-Alien-clause-migrated g c = λ honest t told v has.
     alien-migrated c.in-Err-Alien.field-0 c.in-Err-Alien.version v (g.P.Keeper.has_version c.attach.new.self)
-      (g.P.Keeper.honest c.attach.new.self) (g.P.Keeper.has_version c.args.keeper.now)
-      c.in-Err-Alien.field-0-is c.in-Err-Alien.ensures.alien c.in-Err-Alien.ensures.same honest has
+    (g.P.Keeper.honest c.attach.new.self) (g.P.Keeper.has_version c.args.keeper.now)
+    c.in-Err-Alien.field-0-is c.in-Err-Alien.ensures.alien c.in-Err-Alien.ensures.same honest has

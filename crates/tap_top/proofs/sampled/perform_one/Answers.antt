@@ -16,7 +16,7 @@ pub returns-in-Some-clause-ok : goal.returns-in-Some-clause-ok
 returns-in-Some-clause-ok g c = λ t honest at.
     let step = c.in-Ok.ensures.step t at.represents (sound-for c.args.command t c.args.engine.now.session at.sound) in
     let there : EngineMatchesKeeper c.perform.new.self (g.P.Keeper.tells c.perform.new.keeper) (g.P.Keeper.may_leave c.perform.new.keeper)
-        (next_tables c.args.command c.in-Ok.reply c.args.engine.now.session t) =
+    (next_tables c.args.command c.in-Ok.reply c.args.engine.now.session t) =
     record {
       represents = c.in-Ok.ensures.represents t at.represents (sound-for c.args.command t c.args.engine.now.session at.sound);
       sound = step-sound t c.args.engine.now.session c.args.command c.in-Ok.reply
@@ -24,15 +24,17 @@ returns-in-Some-clause-ok g c = λ t honest at.
       holds = c.in-Ok.ensures.kept t at.represents (sound-for c.args.command t c.args.engine.now.session at.sound) honest at.holds;
     } in
     Performed-one t _
-      c.args.command c.in-Ok.reply (λ replies x. EngineMatchesKeeper c.perform.new.self (g.P.Keeper.tells c.perform.new.keeper)
-        (g.P.Keeper.may_leave c.perform.new.keeper) x × Adds c.args.tally c.in-Some.tally replies) _ _ at.sound step (there,
-        Adds-one c.args.tally c.in-Some.tally c.in-Ok.reply c.in-Some.ensures.refused c.in-Some.ensures.delivered c.in-Some.ensures.able)
+    c.args.command c.in-Ok.reply (λ replies x. EngineMatchesKeeper c.perform.new.self (g.P.Keeper.tells c.perform.new.keeper)
+    (g.P.Keeper.may_leave c.perform.new.keeper) x × Adds c.args.tally c.in-Some.tally replies) _ _ at.sound step (
+      there,
+      Adds-one c.args.tally c.in-Some.tally c.in-Ok.reply c.in-Some.ensures.refused c.in-Some.ensures.delivered c.in-Some.ensures.able,
+    )
 
 pub returns-clause-memory : goal.returns-clause-memory
 returns-clause-memory g c = λ _ t honest at.
     FirstPerformed-one t _ c.args.command c.in-Ok.reply _ (next_tables c.args.command c.in-Ok.reply c.args.engine.now.session t) _
-      at.sound (c.in-Ok.ensures.step t at.represents (sound-for c.args.command t c.args.engine.now.session at.sound))
-      (c.in-Ok.ensures.kept t at.represents (sound-for c.args.command t c.args.engine.now.session at.sound) honest at.holds)
+    at.sound (c.in-Ok.ensures.step t at.represents (sound-for c.args.command t c.args.engine.now.session at.sound))
+    (c.in-Ok.ensures.kept t at.represents (sound-for c.args.command t c.args.engine.now.session at.sound) honest at.holds)
 
 pub returns-in-Err-KeeperFailed-clause-frame : goal.returns-in-Err-KeeperFailed-clause-frame
 returns-in-Err-KeeperFailed-clause-frame g c = record {

@@ -14,10 +14,10 @@ pub returns-in-Ok-clause-script : goal.returns-in-Ok-clause-script
 returns-in-Ok-clause-script g c = λ t honest holds store.
     let opened = c.run-status.ensures.frame.keeper.before honest in
     let at = opened-at c.in-Ok.engine _ _ t c.in-Ok.ensures.session (c.in-Ok.ensures.represents opened t holds.told)
-        (c.in-Ok.ensures.kept opened t holds.told c.in-Ok.ensures.can.attached.running) store in
+    (c.in-Ok.ensures.kept opened t holds.told c.in-Ok.ensures.can.attached.running) store in
     script-ends t _ _ _ _ (g.P.Keeper.has_version c.args.keeper.now) (g.P.Keeper.tells c.run-status.new.keeper)
-      (g.P.Keeper.may_leave c.run-status.new.keeper)
-      c.run-status.result c.run-status.ensures.statuses (c.run-status.ensures.ends t honest at)
+    (g.P.Keeper.may_leave c.run-status.new.keeper)
+    c.run-status.result c.run-status.ensures.statuses (c.run-status.ensures.ends t honest at)
 
 pub returns-in-Ok-clause-kept : goal.returns-in-Ok-clause-kept
 returns-in-Ok-clause-kept g c =
@@ -33,9 +33,9 @@ returns-in-Ok-clause-refusals g c = record {
 pub returns-in-Err-Refused-clause-script : goal.returns-in-Err-Refused-clause-script
 returns-in-Err-Refused-clause-script g c = λ t honest holds store.
     refused-ends t _ _ _ _ (g.P.Keeper.has_version c.args.keeper.now) _ _ (code_of c.refuse.result) _
-      (refusal-code c.refuse.result c.refuse.ensures.statuses)
+    (refusal-code c.refuse.result c.refuse.ensures.statuses)
     (λ v version known. absurd (some-or-none (fault_of v t) c.in-Err-Refused.fault (refused-for _ _ c.in-Err-Refused.fault
-          c.in-Err-Refused.ensures.refused c.in-Err-Refused.field-0-is honest t holds.told v version) (fine-store t v store known)))
+    c.in-Err-Refused.ensures.refused c.in-Err-Refused.field-0-is honest t holds.told v version) (fine-store t v store known)))
     refl c.refuse.ensures.line.written (c.in-Err-Refused.ensures.crash honest t holds.told)
 
 pub returns-in-Err-Refused-clause-refusals : goal.returns-in-Err-Refused-clause-refusals
@@ -44,7 +44,7 @@ returns-in-Err-Refused-clause-refusals g c = record {
   fine = search rules;
   known = λ t honest holds store v version known _.
       absurd (some-or-none (fault_of v t) c.in-Err-Refused.fault (refused-for _ _ c.in-Err-Refused.fault c.in-Err-Refused.ensures.refused
-          c.in-Err-Refused.field-0-is honest t holds.told v version) (fine-store t v store known));
+      c.in-Err-Refused.field-0-is honest t holds.told v version) (fine-store t v store known));
 }
 
 pub returns-in-Err-Keeper-clause-script : goal.returns-in-Err-Keeper-clause-script
@@ -66,13 +66,13 @@ returns-in-Err-Keeper-clause-refusals g c = record {
 pub returns-in-Err-Memory-clause-script : goal.returns-in-Err-Memory-clause-script
 returns-in-Err-Memory-clause-script g c =
     λ t honest holds store. unopened-ends t _ _ _ _ _ _ _ refl refl store (c.in-Err-Memory.ensures.kept honest t
-      holds.told (not-stopped (g.P.Keeper.stopped c.open_store.new.keeper) c.in-Err-Memory.ensures.stopped.0 (λ e. cc)))
+    holds.told (not-stopped (g.P.Keeper.stopped c.open_store.new.keeper) c.in-Err-Memory.ensures.stopped.0 (λ e. cc)))
 
 pub returns-in-Err-Memory-clause-refusals : goal.returns-in-Err-Memory-clause-refusals
 returns-in-Err-Memory-clause-refusals g c = record {
   refused = λ t honest holds v version fault is.
       Refused-none 7 fault _ _ _ _ _ _ t (inr (inr (inr (inr refl)))) (λ e. cc) refl refl (λ _. (c.in-Err-Memory.ensures.kept honest t
-          holds.told (not-stopped (g.P.Keeper.stopped c.open_store.new.keeper) c.in-Err-Memory.ensures.stopped.0 (λ e. cc))).told)
+      holds.told (not-stopped (g.P.Keeper.stopped c.open_store.new.keeper) c.in-Err-Memory.ensures.stopped.0 (λ e. cc))).told)
       (c.in-Err-Memory.ensures.crash honest t holds.told);
   fine = search rules;
   known = search rules;
@@ -82,17 +82,17 @@ pub returns-in-Ok-clause-version : goal.returns-in-Ok-clause-version
 returns-in-Ok-clause-version g c = λ t honest holds store.
     let opened = c.run-status.ensures.frame.keeper.before honest in
     let at = opened-at c.in-Ok.engine _ _ t c.in-Ok.ensures.session (c.in-Ok.ensures.represents opened t holds.told)
-        (c.in-Ok.ensures.kept opened t holds.told c.in-Ok.ensures.can.attached.running) store in
+    (c.in-Ok.ensures.kept opened t holds.told c.in-Ok.ensures.can.attached.running) store in
     exit-run (code_of c.run-status.result) (g.P.Keeper.stopped c.run-status.new.keeper) (g.P.Keeper.has_version c.args.keeper.now)
-      (g.P.Keeper.has_version c.run-status.new.keeper)
+    (g.P.Keeper.has_version c.run-status.new.keeper)
     (run-not-two c.run-status.result c.run-status.ensures.statuses) (λ halts. ap code_of (c.run-status.ensures.stopped.0 halts))
     (λ runs. c.run-status.ensures.frame.version t honest at runs _ (c.in-Ok.ensures.version opened t holds.told))
-      (c.in-Ok.ensures.known opened)
+    (c.in-Ok.ensures.known opened)
 
 pub returns-in-Err-Refused-clause-version : goal.returns-in-Err-Refused-clause-version
 returns-in-Err-Refused-clause-version g c = λ t honest holds store.
     exit-refused (code_of c.refuse.result) (g.P.Keeper.has_version c.args.keeper.now) (g.P.Keeper.has_version c.open_store.new.keeper)
-      (refusal-code c.refuse.result c.refuse.ensures.statuses)
+    (refusal-code c.refuse.result c.refuse.ensures.statuses)
     (refused-for _ _ c.in-Err-Refused.fault c.in-Err-Refused.ensures.migrated c.in-Err-Refused.field-0-is honest t holds.told)
 
 pub returns-in-Err-Keeper-clause-version : goal.returns-in-Err-Keeper-clause-version
@@ -106,7 +106,7 @@ pub returns-in-Ok-clause-prompt : goal.returns-in-Ok-clause-prompt
 returns-in-Ok-clause-prompt g c = λ t honest holds store.
     let opened = c.run-status.ensures.frame.keeper.before honest in
     let at = opened-at c.in-Ok.engine _ _ t c.in-Ok.ensures.session (c.in-Ok.ensures.represents opened t holds.told)
-        (c.in-Ok.ensures.kept opened t holds.told c.in-Ok.ensures.can.attached.running) store in
+    (c.in-Ok.ensures.kept opened t holds.told c.in-Ok.ensures.can.attached.running) store in
     c.run-status.ensures.prompt t honest at
 
 pub returns-in-Err-Refused-clause-prompt : goal.returns-in-Err-Refused-clause-prompt

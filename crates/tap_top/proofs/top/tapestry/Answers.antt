@@ -95,8 +95,8 @@ pub returns-in-Some-clause-sample : goal.returns-in-Some-clause-sample
 returns-in-Some-clause-sample g c = λ n asked t honest holds store.
     let same : c.in-Some.n ≡ n = same-number (sample_in c.args.words.now) c.in-Some.n n (sym c.in-Ok.ensures.sample ∙ c.in-Some.is) asked in
     rw c.code-in-Some.ensures (subst (λ m. SampleEnds (code_of c.sample_store.result) t m (g.K.Sink.out c.args.sink.now)
-          (g.K.Sink.out c.sample_store.new.sink) (g.P.Keeper.has_version c.args.keeper.now) (g.P.Keeper.tells c.sample_store.new.keeper)
-          (g.P.Keeper.may_leave c.sample_store.new.keeper)) same (c.sample_store.ensures.sample t honest holds store))
+    (g.K.Sink.out c.sample_store.new.sink) (g.P.Keeper.has_version c.args.keeper.now) (g.P.Keeper.tells c.sample_store.new.keeper)
+    (g.P.Keeper.may_leave c.sample_store.new.keeper)) same (c.sample_store.ensures.sample t honest holds store))
 
 pub returns-in-Some-clause-kept : goal.returns-in-Some-clause-kept
 returns-in-Some-clause-kept g c = λ t honest holds store x may.
@@ -133,13 +133,13 @@ pub returns-in-Some-clause-told : goal.returns-in-Some-clause-told
 returns-in-Some-clause-told g c = λ t honest holds store runs x tells.
     returns-in-Some-clause-kept g c t honest holds store x
     (g.met.P.Keeper.left c.sample_store.new.keeper x honest (not-stopped (g.P.Keeper.stopped c.sample_store.new.keeper)
-        c.sample_store.ensures.stopped.0 (λ is. runs (c.code-in-Some.ensures ∙ ap code_of is))) tells)
+    c.sample_store.ensures.stopped.0 (λ is. runs (c.code-in-Some.ensures ∙ ap code_of is))) tells)
 
 pub returns-clause-told : goal.returns-clause-told
 returns-clause-told g c = λ t honest holds store runs x tells.
     c.run_store.ensures.kept t honest holds store x
     (g.met.P.Keeper.left c.run_store.new.keeper x honest (not-stopped (g.P.Keeper.stopped c.run_store.new.keeper)
-        c.run_store.ensures.causes.stopped.0 (λ is. runs (c.code-in-None.ensures ∙ is))) tells)
+    c.run_store.ensures.causes.stopped.0 (λ is. runs (c.code-in-None.ensures ∙ is))) tells)
 
 pub returns-in-Some-clause-version : goal.returns-in-Some-clause-version
 returns-in-Some-clause-version g c = λ t honest holds store. rw c.code-in-Some.ensures (c.sample_store.ensures.version t honest holds store)

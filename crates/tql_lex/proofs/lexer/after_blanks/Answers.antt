@@ -7,6 +7,6 @@ use Rattle.tql_lex.proofs.lexer.after_blanks.Goals as goal
 pub returns-clause-same : goal.returns-clause-same
 returns-clause-same c =
     let e : c.blank_len.result ≡ run is_between_tokens (drop c.args.at c.args.text.now) =
-        rw (rest_is c.args.at c.args.text.now) at c.blank_len.ensures.value in
+    rw (rest_is c.args.at c.args.text.now) at c.blank_len.ensures.value in
     tokens_blanks c.args.at (drop c.args.at c.args.text.now)
-      ∙ rw (e, drop-drop (run is_between_tokens (drop c.args.at c.args.text.now)) c.args.at c.args.text.now) refl
+    ∙ rw (e, drop-drop (run is_between_tokens (drop c.args.at c.args.text.now)) c.args.at c.args.text.now) refl

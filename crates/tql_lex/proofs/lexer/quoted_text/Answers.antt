@@ -7,8 +7,8 @@ pub loop-width-preserved : goal.loop-width-preserved
 loop-width-preserved c =
     let one : c.loop-width.at + 1 - c.loop-width.at ≡ 1 = omega arith in
     let slice : c.loop-width.content ++ take (c.loop-width.at + 1 - c.loop-width.at) (drop c.loop-width.at c.args.text.now)
-        ≡ c.loop-width.content ++ take 1 (drop c.loop-width.at c.args.text.now) =
-        ap (λ n. c.loop-width.content ++ take n (drop c.loop-width.at c.args.text.now)) one in
+    ≡ c.loop-width.content ++ take 1 (drop c.loop-width.at c.args.text.now) =
+    ap (λ n. c.loop-width.content ++ take n (drop c.loop-width.at c.args.text.now)) one in
     record {
       value = quoted_step c.args.text.now c.loop-width.content c.push_slice.new.self c.loop-width.at c.loop-width.width
           c.loop-width.invariant.value c.loop-width.invariant.next (omega arith) (c.in_ok-push_slice.ensures.ok ∙ slice);

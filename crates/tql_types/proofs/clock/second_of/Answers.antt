@@ -10,7 +10,7 @@ pub returns-clause-value : goal.returns-clause-value
 returns-clause-value c =
     let plain : to_z w64 (of_z w64 c.unwrap_or.result) ≡ c.unwrap_or.result = search rules in
     plain ∙ c.unwrap_or.ensures
-      ∙ ap (λ o. unwrap_or o (pos 0)) (c.ok.ensures.value ∙ ap result_ok c.read_moment.ensures ∙ found-is (moment_of c.args.text.now))
+    ∙ ap (λ o. unwrap_or o (pos 0)) (c.ok.ensures.value ∙ ap result_ok c.read_moment.ensures ∙ found-is (moment_of c.args.text.now))
 
 pub returns-clause-low : goal.returns-clause-low
 returns-clause-low c = rw (returns-clause-value c) (kept-range (moment_of c.args.text.now) (moment-range c.args.text.now)).0

@@ -19,13 +19,13 @@ loop-row-init g t c =
     let mark = to_z w64 (of_z w64 c.args.mark) in
     let p = searched c.args.search.now in
     let v : IsLevel c.args.search.now.seen.now c.args.search.now.index.now p mark c.args.order.now c.args.env.now c.in-Some.level =
-        search rules in
+    search rules in
     let q : c.rows_by-rows.result ≡ rows_at c.args.search.now.index.now mark c.args.env.now c.in-Some.level = search rules in
     let s : c.next_level.new.steps + level_cost c.args.search.now.index.now p mark c.args.env.now (Some c.in-Some.level)
-        ≤ c.args.steps.now + work_over c.args.search.now.index.now p mark c.args.sure c.args.order.now c.args.env.now = search rules in
+    ≤ c.args.steps.now + work_over c.args.search.now.index.now p mark c.args.sure c.args.order.now c.args.env.now = search rules in
     record {
       same = ap has_hit (v.hits ∙ ap (flat_map (λ row. hits_over c.args.search.now.seen.now c.args.search.now.index.now p mark
-                c.in-Some.level.rest.now (bind c.in-Some.level.reach.var row c.args.env.now))) (sym q));
+          c.in-Some.level.rest.now (bind c.in-Some.level.reach.var row c.args.env.now))) (sym q));
       steps = level_steps c.args.search.now.index.now p mark c.args.env.now c.in-Some.level c.rows_by-rows.result _ _ q s;
       more = c.next_level.ensures.more;
     }
@@ -38,10 +38,10 @@ loop-row-preserved g t c =
     let p = searched c.args.search.now in
     let x = bind c.in-Some.level.reach.var (row_of c.in-Some-next.row) c.args.env.now in
     let h : c.delivers.result
-        ≡ has_hit (hits_over c.args.search.now.seen.now c.args.search.now.index.now p mark c.in-Some.level.rest.now x) = search rules in
+    ≡ has_hit (hits_over c.args.search.now.seen.now c.args.search.now.index.now p mark c.in-Some.level.rest.now x) = search rules in
     let n : c.delivers.result ≡ false = search rules in
     let k : c.delivers.new.steps
-        ≤ c.next.new.steps + work_over c.args.search.now.index.now p mark c.in-Some.level.sure c.in-Some.level.rest.now x = search rules in
+    ≤ c.next.new.steps + work_over c.args.search.now.index.now p mark c.in-Some.level.sure c.in-Some.level.rest.now x = search rules in
     let i = c.loop-row.invariant.more in
     let m = c.delivers.ensures.more in
     record {
@@ -55,20 +55,20 @@ returns-in-Some-OfDoc-clause-hits g t c =
     let p = searched c.args.search.now in
     let e : lookup 0 c.args.env.now ≡ Some (OfDoc c.in-Some-OfDoc.doc.now) = search rules in
     let h : c.delivers_pair.result
-        ≡ has_hit (option_to_list (hit_if (holds_here c.args.search.now.index.now p c.args.mark c.args.order.now c.args.env.now)
-            c.args.mark (new_doc c.args.search.now.seen.now c.in-Some-OfDoc.doc.now))) = search rules in
+    ≡ has_hit (option_to_list (hit_if (holds_here c.args.search.now.index.now p c.args.mark c.args.order.now c.args.env.now)
+    c.args.mark (new_doc c.args.search.now.seen.now c.in-Some-OfDoc.doc.now))) = search rules in
     h ∙ ap has_hit (sym (doc_hits c.args.search.now.seen.now c.args.search.now.index.now p
-          c.args.mark c.args.order.now c.args.env.now c.in-Some-OfDoc.doc.now e))
+    c.args.mark c.args.order.now c.args.env.now c.in-Some-OfDoc.doc.now e))
 
 pub returns-in-Some-OfDoc-clause-steps : goal.returns-in-Some-OfDoc-clause-steps
 returns-in-Some-OfDoc-clause-steps g t c =
     let p = searched c.args.search.now in
     let e : lookup 0 c.args.env.now ≡ Some (OfDoc c.in-Some-OfDoc.doc.now) = search rules in
     let k : work_over c.args.search.now.index.now p c.args.mark c.args.sure c.args.order.now c.args.env.now
-        ≡ cost_here c.args.search.now.index.now p c.args.mark c.args.sure c.args.order.now c.args.env.now =
-        doc_cost c.args.search.now.index.now p c.args.mark c.args.sure c.args.order.now c.args.env.now c.in-Some-OfDoc.doc.now e in
+    ≡ cost_here c.args.search.now.index.now p c.args.mark c.args.sure c.args.order.now c.args.env.now =
+    doc_cost c.args.search.now.index.now p c.args.mark c.args.sure c.args.order.now c.args.env.now c.in-Some-OfDoc.doc.now e in
     let s : c.delivers_pair.new.steps ≤ c.args.steps.now
-        + cost_here c.args.search.now.index.now p c.args.mark c.args.sure c.args.order.now c.args.env.now = search rules in
+    + cost_here c.args.search.now.index.now p c.args.mark c.args.sure c.args.order.now c.args.env.now = search rules in
     omega (arith, k, s)
 
 pub returns-in-Some-OfNote-clause-hits : goal.returns-in-Some-OfNote-clause-hits
@@ -76,14 +76,14 @@ returns-in-Some-OfNote-clause-hits g t c =
     let p = searched c.args.search.now in
     let e : lookup 0 c.args.env.now ≡ Some (OfNote c.in-Some-OfNote.field-0-0.now) = search rules in
     ap has_hit (sym (note_hits c.args.search.now.seen.now c.args.search.now.index.now p
-          c.args.mark c.args.order.now c.args.env.now (OfNote c.in-Some-OfNote.field-0-0.now) e (λ d z. absurd cc)))
+    c.args.mark c.args.order.now c.args.env.now (OfNote c.in-Some-OfNote.field-0-0.now) e (λ d z. absurd cc)))
 
 pub delivers-requires : goal.delivers-requires
 delivers-requires g t c κs within =
     let mark = to_z w64 (of_z w64 c.args.mark) in
     let p = searched c.args.search.now in
     let v : IsLevel c.args.search.now.seen.now c.args.search.now.index.now p mark c.args.order.now c.args.env.now c.in-Some.level =
-        search rules in
+    search rules in
     let sure = v.sure (row_of c.in-Some-next.row) in
     let fewer = v.fewer in
     search (rules, sure, fewer)

@@ -11,9 +11,9 @@ abbrev pub invariant-loop-row : goal.invariant-loop-row
 invariant-loop-row g l = record {
   same : has_hit (hits_over l.fn.search.seen.now l.fn.search.index.now (searched l.fn.search) l.fn.mark l.fn.order l.fn.env)
       ≡ has_hit (flat_map (λ row. hits_over l.fn.search.seen.now l.fn.search.index.now (searched l.fn.search)
-          l.fn.mark l.level.rest.now (bind l.level.reach.var row l.fn.env)) l.rows);
+      l.fn.mark l.level.rest.now (bind l.level.reach.var row l.fn.env)) l.rows);
   steps : l.steps + total (λ row. 1 + work_over l.fn.search.index.now (searched l.fn.search)
-        l.fn.mark l.level.sure l.level.rest.now (bind l.level.reach.var row l.fn.env)) l.rows
+      l.fn.mark l.level.sure l.level.rest.now (bind l.level.reach.var row l.fn.env)) l.rows
       ≤ l.fn.steps + work_over l.fn.search.index.now (searched l.fn.search) l.fn.mark l.fn.sure l.fn.order l.fn.env;
   more : l.fn.steps ≤ l.steps;
 }

@@ -44,10 +44,10 @@ loop-place-preserved g c =
     let n : c.push.new.self.items ≡ c.loop-place.turns.items ++ c.start.result ∷ [] = search rules in
     let h : hits_left w c.start.result ≡ seek_hits entries T w p c.order_at.result.now part.seek (seek_var part.seek) = search rules in
     let h' : hits_left w c.start.result ≡ part_hits entries T w q.pool part = h
-        ∙ ap (λ z. seek_hits entries T w p z part.seek (seek_var part.seek)) o in
+    ∙ ap (λ z. seek_hits entries T w p z part.seek (seek_var part.seek)) o in
     let k : (u : Window) → IsUpTo w u → c.start.new.steps + cost_left u c.start.result
-        ≤ c.loop-place.steps + (1 + part_cost T u q.pool part) = λ u v. subst (λ z. c.start.new.steps + cost_left u c.start.result
-          ≤ c.loop-place.steps + (1 + seek_cost T u p z part.seek (seek_var part.seek))) o (c.start.ensures.cost u v) in
+    ≤ c.loop-place.steps + (1 + part_cost T u q.pool part) = λ u v. subst (λ z. c.start.new.steps + cost_left u c.start.result
+    ≤ c.loop-place.steps + (1 + seek_cost T u p z part.seek (seek_var part.seek))) o (c.start.ensures.cost u v) in
     let r : vec_capacity c.loop-place.turns ≤ vec_capacity c.push.new.self = search rules in
     let i = c.loop-place.invariant.more in
     let m = c.start.ensures.more in
@@ -65,4 +65,4 @@ pub returns-clause-hits : goal.returns-clause-hits
 returns-clause-hits g c =
     let l : length c.args.plan.now.query.parts ≤ c.loop-place.place = search rules in
     all_pushed (hits_left c.args.w) (part_hits c.args.seen.now c.args.index.now c.args.w c.args.plan.now.query.pool)
-      c.loop-place.turns.items c.args.plan.now.query.parts c.loop-place.place _ c.loop-place.invariant.hits l
+    c.loop-place.turns.items c.args.plan.now.query.parts c.loop-place.place _ c.loop-place.invariant.hits l

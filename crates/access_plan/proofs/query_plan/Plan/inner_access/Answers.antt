@@ -12,4 +12,4 @@ returns-in-Some-Some c =
     let read : slice_get inners c.args.id.0 ≡ Some c.in-Some-Some.field-0.now = search (rules, slice_get_read) in
     let g : slice_get inners c.args.id.0 ≡ Some (Some c.in-Some-Some.access) = search (rules, read, is) in
     c.as_ref.ensures ∙ found_access c.args.self.now.query.pool inners c.args.id.0 c.in-Some-Some.access c.args.var c.args.table _
-      c.args.self.now.found g c.requires.exists
+    c.args.self.now.found g c.requires.exists

@@ -6,7 +6,7 @@ pub returns-in-Ok-clause-attaches : goal.returns-in-Ok-clause-attaches
 returns-in-Ok-clause-attaches g c =
     let open_now = c.in-Ok.ensures.open in
     then_attached g.O.Opener.files g.A.Store _ _ _ _
-      c.attach_open.result c.ready.ensures.honest c.ready.ensures.told c.ready.ensures.version
+    c.attach_open.result c.ready.ensures.honest c.ready.ensures.told c.ready.ensures.version
     open_now.3 open_now.4 c.attach_open.ensures.attaches
 
 pub returns-in-Err-clause-attaches : goal.returns-in-Err-clause-attaches
@@ -14,13 +14,13 @@ returns-in-Err-clause-attaches g c =
     let files = g.O.Opener.files in
     not_opened files g.A.Store _ c.ready.new.inner _ c.ready.ensures.honest c.ready.ensures.version
     (λ clean t told.
-      told_durable files g.A.Store g.met.O.Opener.exact g.met.A.Store.settled c.ready.new.inner t clean (c.ready.ensures.told clean t told))
+    told_durable files g.A.Store g.met.O.Opener.exact g.met.A.Store.settled c.ready.new.inner t clean (c.ready.ensures.told clean t told))
     c.in-Err.ensures.free c.ready.ensures.later _ c.in-Err.ensures.kind
 
 pub returns-in-Err-clause-spared : goal.returns-in-Err-clause-spared
 returns-in-Err-clause-spared g c shut clean t told =
     told_durable g.O.Opener.files g.A.Store g.met.O.Opener.exact g.met.A.Store.settled c.ready.new.inner t clean
-      (c.ready.ensures.told clean t told)
+    (c.ready.ensures.told clean t told)
 
 pub returns-in-Err-clause-at_place : goal.returns-in-Err-clause-at_place
 returns-in-Err-clause-at_place g c = record {

@@ -8,23 +8,23 @@ use Rattle.keeper_sql.proofs.filters.FilterRowTableRow.read.Goals as goal
 pub returns-in_err-num-clause-fails : goal.returns-in_err-num-clause-fails
 returns-in_err-num-clause-fails c =
     let by : FailsToTakeRow filter_kinds c.args.row.now c.in_err-num.field-0.0 =
-        taken_of filter_kinds Integer c.args.row.now 0 c.in_err-num.field-0.0 refl c.in_err-num.ensures.fails in
-        search (rules, by)
+    taken_of filter_kinds Integer c.args.row.now 0 c.in_err-num.field-0.0 refl c.in_err-num.ensures.fails in
+    search (rules, by)
 
 pub returns-in_err-owner-clause-fails : goal.returns-in_err-owner-clause-fails
 returns-in_err-owner-clause-fails c =
     let by : FailsToTakeRow filter_kinds c.args.row.now c.in_err-owner.field-0.0 =
-        taken_of filter_kinds Blob c.args.row.now 1 c.in_err-owner.field-0.0 refl c.in_err-owner.ensures.fails in
-        search (rules, by)
+    taken_of filter_kinds Blob c.args.row.now 1 c.in_err-owner.field-0.0 refl c.in_err-owner.ensures.fails in
+    search (rules, by)
 
 pub returns-in_err-source-clause-fails : goal.returns-in_err-source-clause-fails
 returns-in_err-source-clause-fails c =
     let by : FailsToTakeRow filter_kinds c.args.row.now c.in_err-source.field-0.0 =
-        taken_of filter_kinds Blob c.args.row.now 2 c.in_err-source.field-0.0 refl c.in_err-source.ensures.fails in
-        search (rules, by)
+    taken_of filter_kinds Blob c.args.row.now 2 c.in_err-source.field-0.0 refl c.in_err-source.ensures.fails in
+    search (rules, by)
 
 pub returns-in_err-arrival-clause-fails : goal.returns-in_err-arrival-clause-fails
 returns-in_err-arrival-clause-fails c =
     let by : FailsToTakeRow filter_kinds c.args.row.now c.in_err-arrival.field-0.0 =
-        taken_of filter_kinds Integer c.args.row.now 3 c.in_err-arrival.field-0.0 refl c.in_err-arrival.ensures.fails in
-        search (rules, by)
+    taken_of filter_kinds Integer c.args.row.now 3 c.in_err-arrival.field-0.0 refl c.in_err-arrival.ensures.fails in
+    search (rules, by)

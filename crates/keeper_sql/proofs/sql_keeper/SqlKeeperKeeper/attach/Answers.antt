@@ -11,7 +11,7 @@ returns-in-Ok-clause-kept g c clean s told running =
     let was : TellsAs false old s = subst (λ b. TellsAs b old s) c.requires.free told in
     let ours = told_ours old s was in
     held_told old new s c.in-Ok.tables clean c.in-Ok.ensures.live (c.in-Ok.ensures.given_alone clean ours) was
-      (c.in-Ok.ensures.ok clean ours)
+    (c.in-Ok.ensures.ok clean ours)
 
 pub returns-in-Ok-clause-crash : goal.returns-in-Ok-clause-crash
 returns-in-Ok-clause-crash g c clean s told x left =

@@ -9,7 +9,7 @@ invariant_of-self-2 g c =
     let below : are_below (length nodes) (g.N.PoolNode.kids c.args.node) ≡ true = rw c.self.view_is c.requires.kids in
     let room : length nodes < 4294967295 = rw c.self.view_is c.requires.room in
     interned g.N.PoolNode.kids g.N.PartialEq.eq nodes c.args.node c.self.invariant _ (g.met.N.Eq.laws.refl c.args.node) below room
-      c.in_ok-index.ensures.keys
+    c.in_ok-index.ensures.keys
 
 pub returns-clause-is_pool : goal.returns-clause-is_pool
 returns-clause-is_pool g c = invariant_of-self-2 g c

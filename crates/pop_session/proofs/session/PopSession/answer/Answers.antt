@@ -9,14 +9,14 @@ pub returns-in-Ok-clause-put : goal.returns-in-Ok-clause-put
 returns-in-Ok-clause-put g c =
     Put-as g.K.Sink _ _ _ _ _ _
     (ap (λ o. pop_reply_bytes c.self.inside.letters.now o.reply) (c.outcome_of-outcome.ensures
-        ∙ ap (outcome_of c.self.inside.user.now c.self.inside.secret.now c.self.inside.phase) c.as_slice.ensures.value)
-      ∙ ap open_reply c.self.view_is)
+    ∙ ap (outcome_of c.self.inside.user.now c.self.inside.secret.now c.self.inside.phase) c.as_slice.ensures.value)
+    ∙ ap open_reply c.self.view_is)
     c.in-Ok.ensures
 
 pub returns-in-Err-clause-put : goal.returns-in-Err-clause-put
 returns-in-Err-clause-put g c =
     Put-as g.K.Sink _ _ _ _ _ _
     (ap (λ o. pop_reply_bytes c.self.inside.letters.now o.reply) (c.outcome_of-outcome.ensures
-        ∙ ap (outcome_of c.self.inside.user.now c.self.inside.secret.now c.self.inside.phase) c.as_slice.ensures.value)
-      ∙ ap open_reply c.self.view_is)
+    ∙ ap (outcome_of c.self.inside.user.now c.self.inside.secret.now c.self.inside.phase) c.as_slice.ensures.value)
+    ∙ ap open_reply c.self.view_is)
     c.in-Err.ensures

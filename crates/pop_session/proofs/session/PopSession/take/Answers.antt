@@ -36,7 +36,7 @@ pub returns-clause-quit : goal.returns-clause-quit
 returns-clause-quit g c =
     c.is_ended.ensures ∙ ap (λ s. is_ended s.phase) c.self.view_is
     ∙ end-quit c.args.self.now c.requests.self c.args.piece.now c.requests.rest.now _ _ _
-        c.requests.invariant.taken c.is_over.ensures.front (c.is_over.ensures.over c.requests-test.false)
+    c.requests.invariant.taken c.is_over.ensures.front (c.is_over.ensures.over c.requests-test.false)
 
 pub returns-clause-over : goal.returns-clause-over
 returns-clause-over g c = ended-silent c.requests.self c.is_ended.result (c.is_ended.ensures ∙ ap (λ s. is_ended s.phase) c.self.view_is)

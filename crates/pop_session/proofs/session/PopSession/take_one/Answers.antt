@@ -13,27 +13,27 @@ pub returns-then-len-piece-clause-count : goal.returns-then-len-piece-clause-cou
 returns-then-len-piece-clause-count g c =
     open-count c.args.start _ c.ranges.start.fits
     (held-none c.args.self.now (take c.end_of_request-len.result c.args.piece.now)
-      c.hold.ensures.front (NoEnd-front c.args.piece.now c.end_of_request-len.result c.end_of_request-len.ensures.value))
+    c.hold.ensures.front (NoEnd-front c.args.piece.now c.end_of_request-len.result c.end_of_request-len.ensures.value))
 
 pub returns-then-len-piece-clause-ok : goal.returns-then-len-piece-clause-ok
 returns-then-len-piece-clause-ok g c =
     open-put (g.K.Sink.out c.args.sink.now) _
     (held-none c.args.self.now (take c.end_of_request-len.result c.args.piece.now)
-      c.hold.ensures.front (NoEnd-front c.args.piece.now c.end_of_request-len.result c.end_of_request-len.ensures.value))
+    c.hold.ensures.front (NoEnd-front c.args.piece.now c.end_of_request-len.result c.end_of_request-len.ensures.value))
 
 pub returns-then-len-piece-clause-next : goal.returns-then-len-piece-clause-next
 returns-then-len-piece-clause-next g c = λ rest.
     held-next c.args.self.now (take c.end_of_request-len.result c.args.piece.now) rest
-      c.hold.ensures.front (NoEnd-front c.args.piece.now c.end_of_request-len.result c.end_of_request-len.ensures.value)
+    c.hold.ensures.front (NoEnd-front c.args.piece.now c.end_of_request-len.result c.end_of_request-len.ensures.value)
     ∙ ap (λ s. replies_from s rest) (sym c.hold.ensures.next)
     ∙ ap (λ xs. xs ++ replies_from c.hold.new.self rest)
     (sym (held-none c.args.self.now (take c.end_of_request-len.result c.args.piece.now)
-        c.hold.ensures.front (NoEnd-front c.args.piece.now c.end_of_request-len.result c.end_of_request-len.ensures.value)))
+    c.hold.ensures.front (NoEnd-front c.args.piece.now c.end_of_request-len.result c.end_of_request-len.ensures.value)))
 
 pub returns-then-len-piece-clause-quits : goal.returns-then-len-piece-clause-quits
 returns-then-len-piece-clause-quits g c = λ rest.
     held-quits c.args.self.now (take c.end_of_request-len.result c.args.piece.now) rest
-      c.hold.ensures.front (NoEnd-front c.args.piece.now c.end_of_request-len.result c.end_of_request-len.ensures.value)
+    c.hold.ensures.front (NoEnd-front c.args.piece.now c.end_of_request-len.result c.end_of_request-len.ensures.value)
     ∙ ap (λ s. quits_from s rest) (sym c.hold.ensures.next)
 
 pub returns-in-Ok-clause-count : goal.returns-in-Ok-clause-count
@@ -42,38 +42,38 @@ returns-in-Ok-clause-count g c =
     ∙ ap (λ s. counted (c.args.start + length (open_reply s))) c.hold.ensures.next
     ∙ ap (λ xs. counted (c.args.start + length xs))
     (sym (cut-one c.args.self.now c.args.piece.now c.end_of_request-len.result c.hold.ensures.front c.end_of_request-len.ensures.value
-        (grind (arith, c.if-len-piece.false, c.end_of_request-len.ensures.within)) c.requires.ready.not_ended))
+    (grind (arith, c.if-len-piece.false, c.end_of_request-len.ensures.within)) c.requires.ready.not_ended))
 
 pub returns-in-Ok-clause-ok : goal.returns-in-Ok-clause-ok
 returns-in-Ok-clause-ok g c =
     subst (λ xs. Appends (g.K.Sink.out c.args.sink.now) (g.K.Sink.out c.answer.new.sink) xs)
     (ap open_reply c.hold.ensures.next
-      ∙ sym (cut-one c.args.self.now c.args.piece.now c.end_of_request-len.result c.hold.ensures.front c.end_of_request-len.ensures.value
-        (grind (arith, c.if-len-piece.false, c.end_of_request-len.ensures.within)) c.requires.ready.not_ended))
+    ∙ sym (cut-one c.args.self.now c.args.piece.now c.end_of_request-len.result c.hold.ensures.front c.end_of_request-len.ensures.value
+    (grind (arith, c.if-len-piece.false, c.end_of_request-len.ensures.within)) c.requires.ready.not_ended))
     c.in-Ok.ensures.put.ok
 
 pub returns-in-Ok-clause-next : goal.returns-in-Ok-clause-next
 returns-in-Ok-clause-next g c = λ rest.
     cut-next c.args.self.now c.args.piece.now rest c.end_of_request-len.result c.hold.ensures.front c.end_of_request-len.ensures.value
-      (grind (arith, c.if-len-piece.false, c.end_of_request-len.ensures.within)) c.requires.ready.not_ended
+    (grind (arith, c.if-len-piece.false, c.end_of_request-len.ensures.within)) c.requires.ready.not_ended
     ∙ ap (λ s. open_reply s ++ replies_from (answered s) rest) (sym c.hold.ensures.next)
     ∙ ap (λ s. open_reply c.hold.new.self ++ replies_from s rest) (sym c.in-Ok.ensures.next)
     ∙ ap (λ xs. xs ++ replies_from c.answer.new.self rest)
     (ap open_reply c.hold.ensures.next
-      ∙ sym (cut-one c.args.self.now c.args.piece.now c.end_of_request-len.result c.hold.ensures.front c.end_of_request-len.ensures.value
-        (grind (arith, c.if-len-piece.false, c.end_of_request-len.ensures.within)) c.requires.ready.not_ended))
+    ∙ sym (cut-one c.args.self.now c.args.piece.now c.end_of_request-len.result c.hold.ensures.front c.end_of_request-len.ensures.value
+    (grind (arith, c.if-len-piece.false, c.end_of_request-len.ensures.within)) c.requires.ready.not_ended))
 
 pub returns-in-Ok-clause-quits : goal.returns-in-Ok-clause-quits
 returns-in-Ok-clause-quits g c = λ rest.
     cut-quits c.args.self.now c.args.piece.now rest c.end_of_request-len.result c.hold.ensures.front c.end_of_request-len.ensures.value
-      (grind (arith, c.if-len-piece.false, c.end_of_request-len.ensures.within)) c.requires.ready.not_ended
+    (grind (arith, c.if-len-piece.false, c.end_of_request-len.ensures.within)) c.requires.ready.not_ended
     ∙ ap (λ s. quits_from (answered s) rest) (sym c.hold.ensures.next)
     ∙ ap (λ s. quits_from s rest) (sym c.in-Ok.ensures.next)
 
 pub returns-in-Err-clause-err : goal.returns-in-Err-clause-err
 returns-in-Err-clause-err g c =
     cut-failed c.args.self.now c.args.piece.now c.end_of_request-len.result c.args.start _ _ c.in-Err.failed c.hold.ensures.front
-      c.end_of_request-len.ensures.value (grind (arith, c.if-len-piece.false, c.end_of_request-len.ensures.within))
-      c.requires.ready.not_ended
+    c.end_of_request-len.ensures.value (grind (arith, c.if-len-piece.false, c.end_of_request-len.ensures.within))
+    c.requires.ready.not_ended
     (subst (λ s. TookSome c.args.start (g.K.Sink.out c.args.sink.now) (g.K.Sink.out c.answer.new.sink) (open_reply s) c.in-Err.failed)
-      c.hold.ensures.next c.in-Err.ensures.put.err)
+    c.hold.ensures.next c.in-Err.ensures.put.err)

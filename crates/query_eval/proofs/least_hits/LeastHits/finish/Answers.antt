@@ -15,6 +15,6 @@ returns-clause-meaning c = λ seen X T w hits k a f.
     let e : c.deref_mut.result.now ≡ c.args.self.now.hits.items = search rules in
     let n : c.args.self.now.hits.len ≡ length c.put_in_order.new.hits = search rules in
     let r = finished seen X T w hits
-        c.deref_mut.result.now c.put_in_order.new.hits c.put_in_order.ensures.same c.put_in_order.ensures.order (e ∙ k) a f in
+    c.deref_mut.result.now c.put_in_order.new.hits c.put_in_order.ensures.same c.put_in_order.ensures.order (e ∙ k) a f in
     ap (λ z. take z (c.put_in_order.new.hits ++ drop (length c.put_in_order.new.hits) c.args.self.now.hits.items)) n
-      ∙ take-append_seam c.put_in_order.new.hits _ ∙ r
+    ∙ take-append_seam c.put_in_order.new.hits _ ∙ r

@@ -12,4 +12,4 @@ pub returns-clause-names : goal.returns-clause-names
 returns-clause-names c = λ queries is new.
     let made = same-name c.in_ok-owner.owner c.in_ok-name.name c.args.query.now c.in_ok-owner.ensures c.in_ok-name.ensures in
     c.in_ok-insert.ensures.keys
-      ∙ name-added c.self.inside.set.keys _ c.args.query.now queries made (c.self.view_is ∙ is) (sym c.in_ok-insert.ensures.added ∙ new)
+    ∙ name-added c.self.inside.set.keys _ c.args.query.now queries made (c.self.view_is ∙ is) (sym c.in_ok-insert.ensures.added ∙ new)

@@ -7,8 +7,8 @@ pub returns : goal.returns
 returns c =
     elim c.match-get_mut.branch [
       | in-Some w ↦ put_less nat_eq (λ k. k) c.args.key c.args.place c.self.inside.places.entries _ _
-        w.in-Some.places.now w.drop_place.new.places c.self.view_is (search rules)
-        (ap (λ z. z.places.entries) w.self-inside-is ∙ (c.get_mut.follows.holds w.drop_place.new.places).0) w.drop_place.ensures
+          w.in-Some.places.now w.drop_place.new.places c.self.view_is (search rules)
+          (ap (λ z. z.places.entries) w.self-inside-is ∙ (c.get_mut.follows.holds w.drop_place.new.places).0) w.drop_place.ensures
       | in_default w ↦ put_none nat_eq (λ k. k) c.args.key c.args.place c.self.inside.places.entries _ _ c.self.view_is (search rules)
-        (ap (λ z. z.places.entries) w.self-inside-is ∙ search rules)
+          (ap (λ z. z.places.entries) w.self-inside-is ∙ search rules)
     ]

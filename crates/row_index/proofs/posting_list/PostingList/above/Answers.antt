@@ -9,21 +9,24 @@ use Rattle.row_index.proofs.posting_list.PostingList.above.Goals as goal
 pub places_above-requires : goal.places_above-requires
 places_above-requires c =
     rising_placed c.self.inside.docs.now doc_rank (λ o. pos (number_or_zero o)) (λ doc. refl)
-      c.self.inside.places.now c.self.invariant.rows (subst (Rising doc_rank) (sym c.self.view_is) c.requires)
+    c.self.inside.places.now c.self.invariant.rows (subst (Rising doc_rank) (sym c.self.view_is) c.requires)
 
 pub invariant_of-result : goal.invariant_of-result
 invariant_of-result c =
     let docs = c.self.inside.docs.now in
     let left : c.places_above.result.now ≡ filter (λ place. nat_lt c.args.num.0 (place_number docs place)) c.self.inside.places.now =
-        search rules in
-    record { stand = c.self.invariant.stand; rows = subst (HasRows docs) (sym left)
-        (kept_have_rows docs (λ place. nat_lt c.args.num.0 (place_number docs place)) c.self.inside.places.now c.self.invariant.rows) }
+    search rules in
+    record {
+      stand = c.self.invariant.stand;
+      rows = subst (HasRows docs) (sym left)
+          (kept_have_rows docs (λ place. nat_lt c.args.num.0 (place_number docs place)) c.self.inside.places.now c.self.invariant.rows);
+    }
 
 pub returns : goal.returns
 returns c =
     let docs = c.self.inside.docs.now in
     let left : c.places_above.result.now ≡ filter (λ place. nat_lt c.args.num.0 (place_number docs place)) c.self.inside.places.now =
-        search rules in
+    search rules in
     let picked = kept_picked docs (λ doc. nat_lt c.args.num.0 doc.num.0) (λ o. nat_lt c.args.num.0 (number_or_zero o)) (λ doc. refl)
-        c.self.inside.places.now c.self.invariant.rows in
+    c.self.inside.places.now c.self.invariant.rows in
     ap (at_places docs) left ∙ picked ∙ ap (above_number c.args.num.0) c.self.view_is

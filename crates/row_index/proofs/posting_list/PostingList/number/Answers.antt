@@ -10,7 +10,7 @@ overflow_add-result c =
     let places = c.self.inside.places.now in
     let within : c.args.place < length places = search rules in
     let found : slice_get places c.args.place ≡ Some c.in-Some.at.now =
-        slice_get_read places (length places) c.args.place c.in-Some.at.now refl within c.in-Some.ensures.lookup.1 in
+    slice_get_read places (length places) c.args.place c.in-Some.at.now refl within c.in-Some.ensures.lookup.1 in
     let here = number_here c.self.inside.docs.now places c.args.place c.in-Some.at.now c.self.invariant found in
     let room = here.0 in
     search (rules, room)
@@ -20,14 +20,14 @@ returns-in-None c =
     let places = c.self.inside.places.now in
     let over : length places ≤ c.args.place = search rules in
     sym (ap (λ docs. doc_num (slice_get docs c.args.place)) (sym c.self.view_is)
-        ∙ ap doc_num (none_at_place c.self.inside.docs.now places c.args.place c.self.invariant.rows over))
+    ∙ ap doc_num (none_at_place c.self.inside.docs.now places c.args.place c.self.invariant.rows over))
 
 pub returns-in-Some : goal.returns-in-Some
 returns-in-Some c =
     let places = c.self.inside.places.now in
     let within : c.args.place < length places = search rules in
     let found : slice_get places c.args.place ≡ Some c.in-Some.at.now =
-        slice_get_read places (length places) c.args.place c.in-Some.at.now refl within c.in-Some.ensures.lookup.1 in
+    slice_get_read places (length places) c.args.place c.in-Some.at.now refl within c.in-Some.ensures.lookup.1 in
     let here = number_here c.self.inside.docs.now places c.args.place c.in-Some.at.now c.self.invariant found in
     let picked = picked_at c.self.inside.docs.now places c.args.place c.in-Some.at.now c.self.invariant.rows found in
     here.1 ∙ ap doc_num (sym picked) ∙ ap (λ docs. doc_num (slice_get docs c.args.place)) c.self.view_is

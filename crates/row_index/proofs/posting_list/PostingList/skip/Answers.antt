@@ -5,8 +5,11 @@ use Rattle.row_index.proofs.posting_list.PostingList.skip.Goals as goal
 
 pub invariant_of-result : goal.invariant_of-result
 invariant_of-result c =
-    record { stand = c.self.invariant.stand; rows = subst (HasRows c.self.inside.docs.now) (sym c.behind.ensures)
-        (behind_has_rows c.self.inside.docs.now c.self.inside.places.now c.args.place c.self.invariant.rows) }
+    record {
+      stand = c.self.invariant.stand;
+      rows = subst (HasRows c.self.inside.docs.now) (sym c.behind.ensures)
+          (behind_has_rows c.self.inside.docs.now c.self.inside.places.now c.args.place c.self.invariant.rows);
+    }
 
 pub returns : goal.returns
 returns c =

@@ -13,8 +13,8 @@ invariant_of-self-2 c =
     let number : c.args.doc.num.0 ≡ length old + 1 = search rules in
     let fits : c.args.doc.num.0 < 2 ^ 32 = search rules in
     let late : Each (λ other. other.arrival ≤ℤ c.args.doc.arrival) old =
-        subst (λ (t : Tables). Each (λ other. other.arrival ≤ℤ c.args.doc.arrival) t.docs) (sym c.self.view_is) c.requires.after in
+    subst (λ (t : Tables). Each (λ other. other.arrival ≤ℤ c.args.doc.arrival) t.docs) (sym c.self.view_is) c.requires.after in
     let found : (docs : List Doc) → IsNext docs c.args.doc (c.doc_num-place.result - 1) → DocPosts docs c.self.inside.places
-        → DocPosts (docs ++ c.args.doc ∷ []) c.add.new.self = search rules in
+    → DocPosts (docs ++ c.args.doc ∷ []) c.add.new.self = search rules in
     held_doc_more old c.push.new.self.items c.args.doc (c.doc_num-place.result - 1) c.self.inside.places c.add.new.self
-      c.self.inside.notes.items c.self.inside.on_doc c.self.invariant number fits c.requires.moment late (search rules) found (search rules)
+    c.self.inside.notes.items c.self.inside.on_doc c.self.invariant number fits c.requires.moment late (search rules) found (search rules)

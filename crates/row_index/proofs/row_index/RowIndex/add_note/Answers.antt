@@ -12,7 +12,7 @@ invariant_of-self-2 c =
     let fits : c.args.note.num.0 < 2 ^ 32 = search rules in
     let on : c.args.note.doc.0 < 2 ^ 32 = search rules in
     let late : Each (λ other. other.arrival ≤ℤ c.args.note.arrival) old =
-        subst (λ (t : Tables). Each (λ other. other.arrival ≤ℤ c.args.note.arrival) t.notes) (sym c.self.view_is) c.requires.after in
+    subst (λ (t : Tables). Each (λ other. other.arrival ≤ℤ c.args.note.arrival) t.notes) (sym c.self.view_is) c.requires.after in
     let found : c.add.new.self ≡ posted nat_eq c.args.note.doc.0 (c.args.note.num.0 - 1) c.self.inside.on_doc = search rules in
     held_note_more c.self.inside.docs.items c.self.inside.places old c.push.new.self.items c.args.note (c.args.note.num.0 - 1)
-      c.self.inside.on_doc c.add.new.self c.self.invariant number fits on c.requires.moment late (search rules) found (search rules)
+    c.self.inside.on_doc c.add.new.self c.self.invariant number fits on c.requires.moment late (search rules) found (search rules)

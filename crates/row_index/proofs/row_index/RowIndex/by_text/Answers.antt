@@ -9,7 +9,7 @@ pub at-requires : goal.at-requires
 at-requires c =
     let docs = c.self.inside.docs.items in
     let rows : HasRows docs c.under.result.now = listed_has_rows (texts_of c.args.kind) c.args.text.now docs
-        c.self.invariant.docs_stand c.under.result.now (c.under.ensures docs c.self.invariant.docs_found.texts) in
+    c.self.invariant.docs_stand c.under.result.now (c.under.ensures docs c.self.invariant.docs_found.texts) in
     let stand = c.self.invariant.docs_stand in
     search (rules, rows, stand)
 
@@ -17,6 +17,6 @@ pub returns : goal.returns
 returns c =
     let docs = c.self.inside.docs.items in
     let picked = listed_picked (texts_of c.args.kind) c.args.text.now docs
-        c.self.invariant.docs_stand c.under.result.now (c.under.ensures docs c.self.invariant.docs_found.texts) in
+    c.self.invariant.docs_stand c.under.result.now (c.under.ensures docs c.self.invariant.docs_found.texts) in
     let listed : c.at.result ≡ at_places docs c.under.result.now = search rules in
     listed ∙ picked ∙ ap (λ (t : Tables). with_text (texts_of c.args.kind) c.args.text.now t.docs) c.self.view_is

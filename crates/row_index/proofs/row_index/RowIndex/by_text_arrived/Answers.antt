@@ -10,7 +10,7 @@ pub places_within-requires : goal.places_within-requires
 places_within-requires c =
     let docs = c.self.inside.docs.items in
     let rise : Rising (place_arrival docs) c.under-places.result.now = listed_rise (texts_of c.args.kind) c.args.text.now docs
-        c.self.invariant.docs_stand c.under-places.result.now (c.under-places.ensures docs c.self.invariant.docs_found.texts) in
+    c.self.invariant.docs_stand c.under-places.result.now (c.under-places.ensures docs c.self.invariant.docs_found.texts) in
     search (rules, rise)
 
 pub at-requires : goal.at-requires
@@ -18,8 +18,8 @@ at-requires c =
     let docs = c.self.inside.docs.items in
     let cut : c.places_within.result.now ≡ in_window (place_arrival docs) c.args.low c.args.high c.under-places.result.now = search rules in
     let rows : HasRows docs c.places_within.result.now =
-        window_has_rows (texts_of c.args.kind) c.args.text.now docs c.self.invariant.docs_stand c.args.low c.args.high
-        c.under-places.result.now c.places_within.result.now (c.under-places.ensures docs c.self.invariant.docs_found.texts) cut in
+    window_has_rows (texts_of c.args.kind) c.args.text.now docs c.self.invariant.docs_stand c.args.low c.args.high
+    c.under-places.result.now c.places_within.result.now (c.under-places.ensures docs c.self.invariant.docs_found.texts) cut in
     let stand = c.self.invariant.docs_stand in
     search (rules, rows, stand)
 
@@ -28,8 +28,8 @@ returns c =
     let docs = c.self.inside.docs.items in
     let cut : c.places_within.result.now ≡ in_window (place_arrival docs) c.args.low c.args.high c.under-places.result.now = search rules in
     let picked = window_picked (texts_of c.args.kind) c.args.text.now docs c.self.invariant.docs_stand c.args.low c.args.high
-        c.under-places.result.now c.places_within.result.now (c.under-places.ensures docs c.self.invariant.docs_found.texts) cut in
+    c.under-places.result.now c.places_within.result.now (c.under-places.ensures docs c.self.invariant.docs_found.texts) cut in
     let listed : c.at.result ≡ at_places docs c.places_within.result.now = search rules in
     listed ∙ picked
-        ∙ ap (λ (t : Tables). in_window doc_arrival c.args.low c.args.high (with_text (texts_of c.args.kind) c.args.text.now t.docs))
-        c.self.view_is
+    ∙ ap (λ (t : Tables). in_window doc_arrival c.args.low c.args.high (with_text (texts_of c.args.kind) c.args.text.now t.docs))
+    c.self.view_is

@@ -10,6 +10,6 @@ invariant_of-self c =
     let rest = c.pop.new.self.items in
     let all : c.self.inside.docs.items ≡ rest ++ c.in-Some.doc ∷ [] = search rules in
     let found : (docs : List Doc) → IsNext docs c.in-Some.doc (length rest) → DocPosts (docs ++ c.in-Some.doc ∷ []) c.self.inside.places
-        → DocPosts docs c.forget.new.self = search rules in
+    → DocPosts docs c.forget.new.self = search rules in
     held_doc_less rest c.self.inside.docs.items c.in-Some.doc (length rest)
-      c.self.inside.places c.forget.new.self c.self.inside.notes.items c.self.inside.on_doc c.self.invariant all (search rules) found
+    c.self.inside.places c.forget.new.self c.self.inside.notes.items c.self.inside.on_doc c.self.invariant all (search rules) found

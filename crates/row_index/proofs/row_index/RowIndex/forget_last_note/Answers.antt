@@ -9,4 +9,4 @@ invariant_of-self c =
     let all : c.self.inside.notes.items ≡ rest ++ c.in-Some.note ∷ [] = search rules in
     let found : c.forget.new.self ≡ unposted nat_eq c.in-Some.note.doc.0 (length rest) c.self.inside.on_doc = search rules in
     held_note_less c.self.inside.docs.items c.self.inside.places rest c.self.inside.notes.items c.in-Some.note (length rest)
-      c.self.inside.on_doc c.forget.new.self c.self.invariant all (search rules) found
+    c.self.inside.on_doc c.forget.new.self c.self.invariant all (search rules) found

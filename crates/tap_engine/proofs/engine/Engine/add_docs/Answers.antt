@@ -16,8 +16,8 @@ returns-clause-change c =
 pub returns-clause-room : goal.returns-clause-room
 returns-clause-room c =
     let new : c.add_all.new.index
-        ≡ after c.args.self.now.index (Docs (docs_from (length c.args.self.now.index.docs + 1) c.args.moment c.args.texts.now)) =
-        search rules in
+    ≡ after c.args.self.now.index (Docs (docs_from (length c.args.self.now.index.docs + 1) c.args.moment c.args.texts.now)) =
+    search rules in
     let room : length c.args.self.now.index.docs + length c.args.texts.now ≤ c.grow.new.self.room = search rules in
     docs-room c.args.self.now.index c.add_all.new.index (length c.args.self.now.index.docs + 1)
-      c.args.moment c.args.texts.now c.grow.new.self.room new room
+    c.args.moment c.args.texts.now c.grow.new.self.room new room

@@ -14,10 +14,10 @@ pub returns-in_err-lines-clause-steps : goal.returns-in_err-lines-clause-steps
 returns-in_err-lines-clause-steps g c =
     let same : c.as_slice.result.now ≡ entries_in_run c.args.ordinal c.in_ok-kept.kept.now.entries = search rules in
     digest-since c.args.self.now c.args.name.now c.args.ordinal c.in_ok-kept.kept.now c.as_slice.result.now c.digest.new.steps
-      c.args.steps.now c.in_ok-kept.ensures.ok same c.digest.ensures.steps
+    c.args.steps.now c.in_ok-kept.ensures.ok same c.digest.ensures.steps
 
 pub returns-clause-steps : goal.returns-clause-steps
 returns-clause-steps g c =
     let same : c.as_slice.result.now ≡ entries_in_run c.args.ordinal c.in_ok-kept.kept.now.entries = search rules in
     digest-since c.args.self.now c.args.name.now c.args.ordinal c.in_ok-kept.kept.now c.as_slice.result.now c.digest.new.steps
-      c.args.steps.now c.in_ok-kept.ensures.ok same c.digest.ensures.steps
+    c.args.steps.now c.in_ok-kept.ensures.ok same c.digest.ensures.steps

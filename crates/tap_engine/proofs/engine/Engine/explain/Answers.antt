@@ -7,8 +7,8 @@ use Rattle.tap_engine.proofs.engine.Engine.explain.Goals as goal
 pub returns-in_err-lines-clause-refusal : goal.returns-in_err-lines-clause-refusal
 returns-in_err-lines-clause-refusal c =
     let by = lines-refuses c.args.self.now c.args.name c.in_err-lines.field-0.0 (subst
-          (λ n. RefusedBy (look_refusal c.args.self.now n) c.in_err-lines.field-0.0) c.as_slice.ensures c.in_err-lines.ensures.refusal) in
-        search (rules, by)
+    (λ n. RefusedBy (look_refusal c.args.self.now n) c.in_err-lines.field-0.0) c.as_slice.ensures c.in_err-lines.ensures.refusal) in
+    search (rules, by)
 
 pub returns-clause-ok : goal.returns-clause-ok
 returns-clause-ok c = λ t represents sound. answers-lines c.args.self.now t c.args.name c.in_ok-lines.lines represents

@@ -15,20 +15,26 @@ pub returns-clause-ready : goal.returns-clause-ready
 returns-clause-ready c =
     let there : c.args.self.now.session.moment ≡ Some c.in-Some.moment = search rules in
     let at : c.in-Some.moment ≡ moment_or_zero c.args.self.now.session = search rules in
-    let engine : c.add_doc.new.self ≡ record c.args.self.now { index =
+    let engine : c.add_doc.new.self ≡ record c.args.self.now {
+      index =
           after c.args.self.now.index (Docs (docs_from (length c.args.self.now.index.docs + 1) c.in-Some.moment (c.in_ok-text.text ∷ [])));
-          hits = c.add_doc.new.self.hits; bytes = c.args.self.now.bytes + length c.in_ok-text.text } = search rules in
+      hits = c.add_doc.new.self.hits;
+      bytes = c.args.self.now.bytes + length c.in_ok-text.text;
+    } = search rules in
     let room :
-        length (c.args.self.now.index.docs ++ docs_from (length c.args.self.now.index.docs + 1) c.in-Some.moment (c.in_ok-text.text ∷ []))
-        ≤ c.add_doc.new.self.hits.room = subst (λ e. length e.index.docs ≤ c.add_doc.new.self.hits.room) engine c.in_ok-num.ensures.room in
+    length (c.args.self.now.index.docs ++ docs_from (length c.args.self.now.index.docs + 1) c.in-Some.moment (c.in_ok-text.text ∷ []))
+    ≤ c.add_doc.new.self.hits.room = subst (λ e. length e.index.docs ≤ c.add_doc.new.self.hits.room) engine c.in_ok-num.ensures.room in
     subst IsReady (sym engine)
-    (subst (λ m. IsReady (record c.args.self.now { index =
-            after c.args.self.now.index (Docs (docs_from (length c.args.self.now.index.docs + 1) m (c.in_ok-text.text ∷ [])));
-            hits = c.add_doc.new.self.hits; bytes = c.args.self.now.bytes + length c.in_ok-text.text })) (sym at)
+    (subst (λ m. IsReady (record c.args.self.now {
+      index =
+          after c.args.self.now.index (Docs (docs_from (length c.args.self.now.index.docs + 1) m (c.in_ok-text.text ∷ [])));
+      hits = c.add_doc.new.self.hits;
+      bytes = c.args.self.now.bytes + length c.in_ok-text.text;
+    })) (sym at)
     (ready-docs c.args.self.now c.add_doc.new.self.hits (c.in_ok-text.text ∷ []) (c.args.self.now.bytes + length c.in_ok-text.text)
-      c.requires.ready (some-moment c.args.self.now.session.moment c.in-Some.moment there)
+    c.requires.ready (some-moment c.args.self.now.session.moment c.in-Some.moment there)
     (subst (λ m. length (c.args.self.now.index.docs ++ docs_from (length c.args.self.now.index.docs + 1) m (c.in_ok-text.text ∷ []))
-        ≤ c.add_doc.new.self.hits.room) at room)))
+    ≤ c.add_doc.new.self.hits.room) at room)))
 
 pub add_doc-requires-clause-arrives : goal.add_doc-requires-clause-arrives
 add_doc-requires-clause-arrives c =

@@ -14,6 +14,6 @@ returns-in_err-rules-clause-refusal c =
     let user : no_user c.args.self.now.session ≡ None = search rules in
     let long : long_filter c.args.block ≡ None = search rules in
     let limits : first_refusal (filter_limits c.args.self.now (user_of c.args.self.now.session) (length (block_text c.args.block))) ≡ None =
-        search rules in
+    search rules in
     let fault : (filter_fault (block_text c.args.block) ≡ Some x) ⊎ (x ≡ Memory) = search rules in
     let by = text-refused c.args.self.now c.args.block x moment user long limits fault in search (rules, by)

@@ -15,7 +15,7 @@ returns-in_err-source-clause-refusal c =
     let user : no_user c.args.self.now.session ≡ None = search rules in
     let named : None ≡ name_refusal c.args.self.now (user_of c.args.self.now.session) c.args.name = search rules in
     let by = text-refused c.args.self.now c.args.name c.args.source x moment user named c.in_err-source.ensures.refusal in
-        search (rules, by)
+    search (rules, by)
 
 pub returns-clause-cond : goal.returns-clause-cond
 returns-clause-cond c = c.in_ok-source.ensures.cond

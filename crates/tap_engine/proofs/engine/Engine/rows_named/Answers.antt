@@ -12,10 +12,10 @@ pub returns-in_err-rows-clause-steps : goal.returns-in_err-rows-clause-steps
 returns-in_err-rows-clause-steps g c =
     let same : c.as_slice-2.result.now ≡ c.in_ok-kept.kept.now.entries = search rules in
     list-since c.args.self.now c.args.name.now c.in_ok-kept.kept.now c.as_slice-2.result.now c.rate.new.steps c.args.steps.now
-      c.in_ok-kept.ensures.ok same c.rate.ensures.steps
+    c.in_ok-kept.ensures.ok same c.rate.ensures.steps
 
 pub returns-clause-steps : goal.returns-clause-steps
 returns-clause-steps g c =
     let same : c.as_slice-2.result.now ≡ c.in_ok-kept.kept.now.entries = search rules in
     list-since c.args.self.now c.args.name.now c.in_ok-kept.kept.now c.as_slice-2.result.now c.rate.new.steps c.args.steps.now
-      c.in_ok-kept.ensures.ok same c.rate.ensures.steps
+    c.in_ok-kept.ensures.ok same c.rate.ensures.steps

@@ -58,9 +58,14 @@ pub deliver-requires-clause-runs : goal.deliver-requires-clause-runs
 deliver-requires-clause-runs g c = λ x.
     let d = due-at c.args.self.now c.args.name.now c.in_ok-due.due c.requires.ready c.in_ok-due.ensures.due in
     let at : slice_index_or c.args.self.now.queries (c.in_ok-due.due.query.0 - 1) x ≡ d.kept =
-        d.at.at (c.in_ok-due.due.query.0 - 1) x (omega (arith, ap (λ x. x.query.0) d.is, d.at.low)) in
-    omega (arith, ap (λ k. (slice_index_or k.queries (c.in_ok-due.due.query.0 - 1) x).runs) c.due_run.ensures.still.same,
-        ap (λ k. k.runs) at, d.at.few, c.in_ok-due.ensures.few)
+    d.at.at (c.in_ok-due.due.query.0 - 1) x (omega (arith, ap (λ x. x.query.0) d.is, d.at.low)) in
+    omega (
+      arith,
+      ap (λ k. (slice_index_or k.queries (c.in_ok-due.due.query.0 - 1) x).runs) c.due_run.ensures.still.same,
+      ap (λ k. k.runs) at,
+      d.at.few,
+      c.in_ok-due.ensures.few,
+    )
 
 pub deliver-requires-clause-new : goal.deliver-requires-clause-new
 deliver-requires-clause-new g c = λ x.
@@ -68,13 +73,13 @@ deliver-requires-clause-new g c = λ x.
     let due = c.in_ok-due.due in
     let d = due-at e c.args.name.now due c.requires.ready c.in_ok-due.ensures.due in
     let at : slice_index_or e.queries (due.query.0 - 1) x ≡ d.kept =
-        d.at.at (due.query.0 - 1) x (omega (arith, ap (λ x. x.query.0) d.is, d.at.low)) in
+    d.at.at (due.query.0 - 1) x (omega (arith, ap (λ x. x.query.0) d.is, d.at.low)) in
     let new : AreNew d.kept.entries due.hits =
-        subst (λ o. IfSome o (λ kept. AreNew kept.entries due.hits)) d.named c.in_ok-due.ensures.new in
+    subst (λ o. IfSome o (λ kept. AreNew kept.entries due.hits)) d.named c.in_ok-due.ensures.new in
     let same : c.as_slice.result.now ≡ due.hits = search rules in
     subst (λ (k : CachedQuery). AreNew k.entries c.as_slice.result.now)
-        (sym (ap (λ k. slice_index_or k.queries (due.query.0 - 1) x) c.due_run.ensures.still.same ∙ at))
-        (subst (AreNew d.kept.entries) (sym same) new)
+    (sym (ap (λ k. slice_index_or k.queries (due.query.0 - 1) x) c.due_run.ensures.still.same ∙ at))
+    (subst (AreNew d.kept.entries) (sym same) new)
 
 pub deliver-requires-clause-few : goal.deliver-requires-clause-few
 deliver-requires-clause-few g c = omega (arith, ap (λ k. k.run_count) c.due_run.ensures.still.same, c.in_ok-due.ensures.few)
@@ -97,48 +102,54 @@ returns-clause-ok g c = λ t represents sound-for.
     let same = c.due_run.ensures.still.same in
     let none = sym (run-verdict e t c.args.name.now represents sound) ∙ c.in_ok-due.ensures.verdict in
     let d = due-is e t c.args.name.now due represents sound (run-moment e c.args.name.now c.in_ok-due.ensures.verdict)
-        c.in_ok-due.ensures.due in
+    c.in_ok-due.ensures.due in
     let raw : c.in_ok-change.change ≡ run_rows c.due_run.new.self.run_count c.due_run.new.self.pick_count due = search rules in
     let change : c.in_ok-change.change ≡ run_rows e.run_count e.pick_count due = raw
-        ∙ ap (λ k. run_rows k.run_count k.pick_count due) same in
+    ∙ ap (λ k. run_rows k.run_count k.pick_count due) same in
     let answers = answers-run e t c.args.name.now due c.in_ok-change.change c.deliver.new.self.session represents none d change
-        (ap (λ k. k.session) (c.in_ok-change.ensures.engine (never_run d.q)) ∙ ap (λ k. k.session) same) in
-        search (rules, answers)
+    (ap (λ k. k.session) (c.in_ok-change.ensures.engine (never_run d.q)) ∙ ap (λ k. k.session) same) in
+    search (rules, answers)
 
 pub returns-clause-represents : goal.returns-clause-represents
 returns-clause-represents g c = λ t represents sound-for.
     let e = c.args.self.now in
     let sound = sound-asked (Run c.args.name.now) t e.session refl sound-for in
     let due = c.in_ok-due.due in
-    let next : Engine → CachedQuery → Engine = λ k x. record k { queries = slice_set k.queries (due.query.0 - 1)
+    let next : Engine → CachedQuery → Engine = λ k x. record k {
+      queries = slice_set k.queries (due.query.0 - 1)
           (after_run due.moment (map (entry_at (due.runs + 1)) due.hits) (slice_index_or k.queries (due.query.0 - 1) x));
-          run_count = k.run_count + 1; pick_count = k.pick_count + length due.hits } in
+      run_count = k.run_count + 1;
+      pick_count = k.pick_count + length due.hits;
+    } in
     let same = c.due_run.ensures.still.same in
     let there = run-moment e c.args.name.now c.in_ok-due.ensures.verdict in
     let d = due-is e t c.args.name.now due represents sound there c.in_ok-due.ensures.due in
     let raw-change : c.in_ok-change.change ≡ run_rows c.due_run.new.self.run_count c.due_run.new.self.pick_count due = search rules in
     let change : c.in_ok-change.change ≡ run_rows e.run_count e.pick_count due = raw-change
-        ∙ ap (λ k. run_rows k.run_count k.pick_count due) same in
+    ∙ ap (λ k. run_rows k.run_count k.pick_count due) same in
     let raw : (x : CachedQuery) → c.deliver.new.self ≡ next c.due_run.new.self x = search rules in
     subst (λ change. Represents c.deliver.new.self (after t change)) (sym change)
     (represents-run e t c.args.name.now due c.due_run.new.self.hits c.deliver.new.self represents sound.kept d there (λ x. raw x
-      ∙ ap (λ k. next k x) same))
+    ∙ ap (λ k. next k x) same))
 
 pub returns-clause-undo : goal.returns-clause-undo
 returns-clause-undo g c =
     let e = c.args.self.now in
     let due = c.in_ok-due.due in
-    let next : Engine → CachedQuery → Engine = λ k x. record k { queries = slice_set k.queries (due.query.0 - 1)
+    let next : Engine → CachedQuery → Engine = λ k x. record k {
+      queries = slice_set k.queries (due.query.0 - 1)
           (after_run due.moment (map (entry_at (due.runs + 1)) due.hits) (slice_index_or k.queries (due.query.0 - 1) x));
-          run_count = k.run_count + 1; pick_count = k.pick_count + length due.hits } in
+      run_count = k.run_count + 1;
+      pick_count = k.pick_count + length due.hits;
+    } in
     let raw : (x : CachedQuery) → c.deliver.new.self ≡ next c.due_run.new.self x = search rules in
     let same = c.due_run.ensures.still.same in
     let d = due-at e c.args.name.now due c.requires.ready c.in_ok-due.ensures.due in
     let place : due.query.0 - 1 < length e.queries = omega (arith, ap (λ x. x.query.0) d.is, d.at.low, d.at.high) in
     subst (λ undo. UndoRestores undo c.deliver.new.self e) (sym (c.undo_run-undo.ensures d.kept
-          ∙ ap (λ k. undo_run k (due.query.0 - 1) (slice_index_or k.queries (due.query.0 - 1) d.kept)) same))
+    ∙ ap (λ k. undo_run k (due.query.0 - 1) (slice_index_or k.queries (due.query.0 - 1) d.kept)) same))
     (undo-run e c.deliver.new.self c.due_run.new.self.hits (due.query.0 - 1) due.moment (map (entry_at (due.runs + 1)) due.hits)
-      (e.run_count + 1) (e.pick_count + length due.hits) d.kept place c.due_run.ensures.still.room
+    (e.run_count + 1) (e.pick_count + length due.hits) d.kept place c.due_run.ensures.still.room
     (raw d.kept ∙ ap (λ k. next k d.kept) same))
 
 pub returns-clause-ready : goal.returns-clause-ready
@@ -148,7 +159,7 @@ returns-clause-ready g c =
     let same = c.due_run.ensures.still.same in
     let d = due-at e c.args.name.now due c.requires.ready c.in_ok-due.ensures.due in
     let moment : IsMoment due.moment = subst IsMoment (sym (ap (λ x. x.moment) d.is))
-        (moment_or_zero-moment e c.requires.ready (run-moment e c.args.name.now c.in_ok-due.ensures.verdict)) in
+    (moment_or_zero-moment e c.requires.ready (run-moment e c.args.name.now c.in_ok-due.ensures.verdict)) in
     let ready : IsReady c.due_run.new.self = ready-still e c.due_run.new.self c.requires.ready c.due_run.ensures.still in
     subst IsReady (sym (c.in_ok-change.ensures.engine d.kept)) (record {
       docs = ready.docs;

@@ -6,8 +6,8 @@ use Rattle.tap_engine.proofs.engine.Engine.show_box.Goals as goal
 pub returns-in_err-entries-clause-refusal : goal.returns-in_err-entries-clause-refusal
 returns-in_err-entries-clause-refusal c =
     let by = box-refuses c.args.self.now c.args.name c.in_err-entries.field-0.0 (subst (λ n.
-            RefusedBy (look_refusal c.args.self.now n) c.in_err-entries.field-0.0) c.as_slice.ensures c.in_err-entries.ensures.refusal) in
-        search (rules, by)
+    RefusedBy (look_refusal c.args.self.now n) c.in_err-entries.field-0.0) c.as_slice.ensures c.in_err-entries.ensures.refusal) in
+    search (rules, by)
 
 pub returns-clause-ok : goal.returns-clause-ok
 returns-clause-ok c = λ t represents sound. answers-box c.args.self.now t c.args.name c.in_ok-entries.entries represents sound

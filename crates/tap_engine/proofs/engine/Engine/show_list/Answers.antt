@@ -9,8 +9,8 @@ use Rattle.tap_engine.proofs.engine.Engine.show_list.Goals as goal
 pub returns-in_err-rows-clause-refusal : goal.returns-in_err-rows-clause-refusal
 returns-in_err-rows-clause-refusal g c =
     let by = list-refuses c.args.self.now c.args.name c.in_err-rows.field-0.0 (subst
-          (λ n. RefusedBy (look_refusal c.args.self.now n) c.in_err-rows.field-0.0) c.as_slice.ensures c.in_err-rows.ensures.refusal) in
-        search (rules, by)
+    (λ n. RefusedBy (look_refusal c.args.self.now n) c.in_err-rows.field-0.0) c.as_slice.ensures c.in_err-rows.ensures.refusal) in
+    search (rules, by)
 
 pub returns-clause-ok : goal.returns-clause-ok
 returns-clause-ok g c = λ t represents sound. answers-list c.args.self.now t c.args.name c.in_ok-rows.rows represents sound
@@ -20,8 +20,8 @@ returns-clause-ok g c = λ t represents sound. answers-list c.args.self.now t c.
 pub returns-in_err-rows-clause-most : goal.returns-in_err-rows-clause-most
 returns-in_err-rows-clause-most g c =
     most-list c.args.self.now c.args.name c.rows_named.new.steps c.args.steps.now (subst (λ n. c.rows_named.new.steps
-        ≤ c.args.steps.now + cached_list_work (cached_named c.args.self.now n)) c.as_slice.ensures c.rows_named.ensures.steps)
+    ≤ c.args.steps.now + cached_list_work (cached_named c.args.self.now n)) c.as_slice.ensures c.rows_named.ensures.steps)
 
 pub returns-clause-most : goal.returns-clause-most
 returns-clause-most g c = most-list c.args.self.now c.args.name c.rows_named.new.steps c.args.steps.now (subst (λ n. c.rows_named.new.steps
-        ≤ c.args.steps.now + cached_list_work (cached_named c.args.self.now n)) c.as_slice.ensures c.rows_named.ensures.steps)
+    ≤ c.args.steps.now + cached_list_work (cached_named c.args.self.now n)) c.as_slice.ensures c.rows_named.ensures.steps)

@@ -8,4 +8,4 @@ pub add_run-requires-clause-new : goal.add_run-requires-clause-new
 add_run-requires-clause-new c =
     let d = c.index_mut.result.now in
     subst (λ (k : CachedQuery). AreNew k.entries c.args.hits.now)
-        (sym (c.index_mut.ensures.value ∙ ap (λ l. slice_index_or l c.args.place d) c.self.view_is)) (c.requires.new d)
+    (sym (c.index_mut.ensures.value ∙ ap (λ l. slice_index_or l c.args.place d) c.self.view_is)) (c.requires.new d)

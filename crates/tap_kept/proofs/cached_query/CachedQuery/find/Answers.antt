@@ -16,17 +16,17 @@ returns-clause-hits g c =
     let high : to_z w64 (of_z w64 c.args.moment) ≡ c.args.moment = search rules in
     c.run_into.ensures.hits
     ∙ ap (λ X. meaning_without (was_seen kept.entries) X c.args.index.now
-          (record { low = to_z w64 (of_z w64 kept.covered); high = to_z w64 (of_z w64 c.args.moment) })) c.plan.ensures.query
+    (record { low = to_z w64 (of_z w64 kept.covered); high = to_z w64 (of_z w64 c.args.moment) })) c.plan.ensures.query
     ∙ ap (λ z. meaning_without (was_seen kept.entries) (probes_of_query kept.row)
-          c.args.index.now (record { low = z; high = to_z w64 (of_z w64 c.args.moment) })) low
+    c.args.index.now (record { low = z; high = to_z w64 (of_z w64 c.args.moment) })) low
     ∙ ap (λ z. meaning_without (was_seen kept.entries) (probes_of_query kept.row)
-          c.args.index.now (record { low = kept.covered; high = z })) high
+    c.args.index.now (record { low = kept.covered; high = z })) high
 
 pub returns-clause-new : goal.returns-clause-new
 returns-clause-new g c =
     let w : Window = record { low = to_z w64 (of_z w64 c.args.self.now.covered); high = to_z w64 (of_z w64 c.args.moment) } in
     subst (AreNew c.args.self.now.entries) (sym c.run_into.ensures.hits) (found-new c.args.self.now.entries
-        (λ d. least (ranged_probes c.plan.result.now.query) c.args.index.now d w) c.args.index.now.docs c.docs-docs.ensures.arrived)
+    (λ d. least (ranged_probes c.plan.result.now.query) c.args.index.now d w) c.args.index.now.docs c.docs-docs.ensures.arrived)
 
 pub returns-clause-steps : goal.returns-clause-steps
 returns-clause-steps g c =
@@ -34,7 +34,7 @@ returns-clause-steps g c =
     let low : to_z w64 (of_z w64 kept.covered) ≡ kept.covered = search rules in
     let high : to_z w64 (of_z w64 c.args.moment) ≡ c.args.moment = search rules in
     work-since c.plan.result.now.query c.args.index.now kept (to_z w64 (of_z w64 kept.covered)) (to_z w64 (of_z w64 c.args.moment))
-      c.args.moment _ _ c.plan.ensures.query low high c.run_into.ensures.steps
+    c.args.moment _ _ c.plan.ensures.query low high c.run_into.ensures.steps
 
 pub returns-clause-quiet : goal.returns-clause-quiet
 returns-clause-quiet g c =
@@ -42,7 +42,7 @@ returns-clause-quiet g c =
     let low : to_z w64 (of_z w64 kept.covered) ≡ kept.covered = search rules in
     let high : to_z w64 (of_z w64 c.args.moment) ≡ c.args.moment = search rules in
     quiet-since _ c.args.index.now kept (to_z w64 (of_z w64 kept.covered)) (to_z w64 (of_z w64 c.args.moment))
-      c.args.moment c.plan.ensures.query low high c.run_into.ensures.quiet
+    c.args.moment c.plan.ensures.query low high c.run_into.ensures.quiet
 
 pub returns-clause-due : goal.returns-clause-due
 returns-clause-due g c =
@@ -50,4 +50,4 @@ returns-clause-due g c =
     let low : to_z w64 (of_z w64 kept.covered) ≡ kept.covered = search rules in
     let high : to_z w64 (of_z w64 c.args.moment) ≡ c.args.moment = search rules in
     due-since _ c.args.index.now kept (to_z w64 (of_z w64 kept.covered)) (to_z w64 (of_z w64 c.args.moment)) c.args.moment _ _
-      c.plan.ensures.query low high c.run_into.ensures.due
+    c.plan.ensures.query low high c.run_into.ensures.due

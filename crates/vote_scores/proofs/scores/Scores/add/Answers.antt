@@ -22,21 +22,21 @@ returns-clause-place c =
     let is : c.in_ok-key.key ≡ key_of c.args.note.now = search rules in
     let es = c.self.inside.votes.entries in
     c.in_ok-at.ensures.index ∙ ap (λ k. position_or_len (key.ghosts.eq k) (keys_of es)) is ∙ placed c.args.note.now es
-      ∙ ap (λ votes. vote_place c.args.note.now votes) c.self.view_is
+    ∙ ap (λ votes. vote_place c.args.note.now votes) c.self.view_is
 
 pub returns-clause-old : goal.returns-clause-old
 returns-clause-old c =
     let is : c.in_ok-key.key ≡ key_of c.args.note.now = search rules in
     let es = c.self.inside.votes.entries in
     c.in_ok-at.ensures.old ∙ ap (λ k. lookup (key.ghosts.eq k) es) is ∙ looked_up c.args.note.now es
-      ∙ ap (λ votes. vote_value c.args.note.now votes) c.self.view_is
+    ∙ ap (λ votes. vote_value c.args.note.now votes) c.self.view_is
 
 pub returns-clause-undo : goal.returns-clause-undo
 returns-clause-undo c =
     let undo : VoteUndo = record { at = c.in_ok-at.at; old = c.in_ok-at.old } in
     let more = sym (returns-clause-ok c) in (
       subst (λ votes. CanUndoVote undo votes) more
-        (can_undo c.args.note.now c.args.self.now undo (returns-clause-place c) (returns-clause-old c)),
+          (can_undo c.args.note.now c.args.self.now undo (returns-clause-place c) (returns-clause-old c)),
       ap (λ votes. without_vote undo votes) (returns-clause-ok c)
-        ∙ undoes c.args.note.now c.args.self.now undo (returns-clause-place c) (returns-clause-old c),
+          ∙ undoes c.args.note.now c.args.self.now undo (returns-clause-place c) (returns-clause-old c),
     )

@@ -17,7 +17,7 @@ pub returns : goal.returns
 returns c =
     let is : c.in_ok-counts.counts ≡ counted_from c.args.kind.now [] c.args.self.now = search rules in
     IfOk-weaker c.into_rows.result (λ rows. rows ≡ scores_in_order c.in_ok-counts.counts) (λ rows. (tables : Tables) → AreNumbered tables
-        → c.args.self.now ≡ tally tables.notes → rows ≡ scores_of c.args.kind.now tables)
+    → c.args.self.now ≡ tally tables.notes → rows ≡ scores_of c.args.kind.now tables)
     (λ rows e tables sound tallied. e ∙ ap scores_in_order is
-      ∙ ap (λ votes. scores_in_order (counted_from c.args.kind.now [] votes)) tallied ∙ same_scores c.args.kind.now tables sound)
+    ∙ ap (λ votes. scores_in_order (counted_from c.args.kind.now [] votes)) tallied ∙ same_scores c.args.kind.now tables sound)
     c.into_rows.ensures

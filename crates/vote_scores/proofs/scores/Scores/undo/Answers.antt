@@ -13,7 +13,7 @@ pub returns-in-None : goal.returns-in-None
 returns-in-None c =
     let none : c.args.undo.old ≡ None = search rules in
     ap (λ es. map vote_at es) c.truncate.ensures.entries ∙ cut c.args.undo.at c.self.inside.votes.entries
-      ∙ ap (λ votes. take c.args.undo.at votes) c.self.view_is ∙ sym (undone-old c.args.undo None c.args.self.now none)
+    ∙ ap (λ votes. take c.args.undo.at votes) c.self.view_is ∙ sym (undone-old c.args.undo None c.args.self.now none)
 
 pub returns-in-Some-get_index_mut : goal.returns-in-Some-get_index_mut
 returns-in-Some-get_index_mut c =
@@ -21,5 +21,5 @@ returns-in-Some-get_index_mut c =
     let some : c.args.undo.old ≡ Some value = search rules in
     let same : map vote_at (set_value_at c.self.inside.votes.entries c.args.undo.at value) ≡ without_vote c.args.undo c.args.self.now =
     written c.self.inside.votes.entries c.args.undo.at value ∙ ap (λ votes. with_value c.args.undo.at value votes) c.self.view_is
-      ∙ sym (undone-old c.args.undo (Some value) c.args.self.now some) in
+    ∙ sym (undone-old c.args.undo (Some value) c.args.self.now some) in
     search (rules, same)
