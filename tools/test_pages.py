@@ -213,10 +213,15 @@ class CountsTest(unittest.TestCase):
         self.assertEqual((first.text, second.text), ("A crash leaves these alone. ", "more "))
         self.assertEqual([first.line_of(first.text.index(it)) for it in ("crash", "these")], [2, 3])
 
-    def test_a_crate_names_its_libraries_in_paths_and_imports(self) -> None:
-        texts = {"low": ["use a::b;", "use Rattle.b.specs.C.{d}", "use c;", "unfolding(d::specs::E::f)"], "high": ["let e = 1;"]}
-        uses = plan.read_uses("low: a b c d e\nhigh: e low\n")
-        self.assertEqual(counts.unused(uses, lambda crate: texts[crate]), {"low": ["e"], "high": ["e", "low"]})
+    def test_a_crate_uses_what_it_names_and_what_that_uses(self) -> None:
+        texts = {
+            **dict.fromkeys("abcde", ()),
+            "low": ["use a::b;", "use Rattle.b.specs.C.{d}", "use c;", "unfolding(d::specs::E::f)"],
+            "high": ["let e = 1;"],
+            "top": ["use low::f;"],
+        }
+        uses = plan.read_uses("a:\nb:\nc:\nd:\ne:\nlow: a b c d e kit\nhigh: e low\ntop: low a e\n")
+        self.assertEqual(counts.unused(uses, lambda crate: texts[crate]), {"low": ["e"], "high": ["e", "low"], "top": ["e"]})
 
     def test_a_count_that_is_not_0_is_a_status(self) -> None:
         place = counts.Place("a.rt", 3, "long")

@@ -12,7 +12,7 @@ use Rattle.tap_rows.specs.declared.tables.Tables.{Tables}
 use Rattle.keeper_file.specs.declared.inner.Inner.{Inner}
 use Rattle.keeper_file.specs.OpenerFiles.{FilesOf}
 use Rattle.keeper_file.specs.Cases.{Tells, IsHonest, IsInMemory, has_files}
-use Rattle.keeper_file.specs.Closing.{AreWhole, LeavesOnly}
+use Rattle.keeper_file.specs.Closing.{AreWhole, StoreLeavesOnly}
 use Rattle.keeper_file.specs.Failing.{FailsToCloseOpen}
 use Rattle.sqlite.specs.declared.error.Error.{Error}
 use Rattle.file_session.specs.Closes.{IsClosedAs}
@@ -23,7 +23,7 @@ module _ {D O : Type 0} {g : Ghosts D} (first : FilesOf O) (inner : Inner (FileS
       → IfErr given (λ left. IsTrue (view left.1).is_clean → IsHonest first over_files inner)
       → IfOk given (λ files. IfSome files (λ both. AreClean g both.log both.db → (t : Tables) → Tells first over_files inner t
       → AreWhole g both t))
-      → IfErr given (λ left. IsTrue (view left.1).is_clean → (t : Tables) → Tells first over_files inner t → LeavesOnly g left.1 t)
+      → IfErr given (λ left. IsTrue (view left.1).is_clean → (t : Tables) → Tells first over_files inner t → StoreLeavesOnly g left.1 t)
       → IfErr given (λ left. IsTrue (view left.1).is_clean → FailsToCloseOpen inner left.1 left.0)
       → IsClosedAs first inner (Some given)
   closed-so (Ok None) none honest left whole exact fails = none refl

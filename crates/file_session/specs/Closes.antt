@@ -17,7 +17,7 @@ use Rattle.keeper_file.specs.Images.{ImageTells}
 use Rattle.keeper_file.specs.OpenerFiles.{FilesOf}
 use Rattle.keeper_file.specs.PathFiles.{path_files}
 use Rattle.keeper_file.specs.Cases.{Tells, HasVersion, IsHonest, MayLeave, has_files, is_stopped}
-use Rattle.keeper_file.specs.Closing.{AreWhole, LeavesOnly}
+use Rattle.keeper_file.specs.Closing.{AreWhole, StoreLeavesOnly}
 use Rattle.keeper_file.specs.Failing.{FailsToCloseOpen}
 
 module _ {D O : Type 0} {g : Ghosts D} (first : FilesOf O) where
@@ -34,7 +34,7 @@ module _ {D O : Type 0} {g : Ghosts D} (first : FilesOf O) where
   IsClosedAs inner (Some (Ok None)) = has_files inner ≡ false
   IsClosedAs inner (Some (Ok (Some files))) = AreClean g files.log files.db → ToldTablesAre inner (AreWhole g files)
   IsClosedAs inner (Some (Err left)) = IsTrue (view left.1).is_clean
-      → ToldTablesAre inner (LeavesOnly g left.1) × FailsToCloseOpen inner left.1 left.0
+      → ToldTablesAre inner (StoreLeavesOnly g left.1) × FailsToCloseOpen inner left.1 left.0
 
 -- the end of a call over a keeper with this opener: the keeper, stopped if and only if the status is 5, over which, if it is
 -- honest, the call ended so for the tables that the files held initially; and what is left of it

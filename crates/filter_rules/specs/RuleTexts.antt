@@ -18,7 +18,7 @@ rule_lines_from number (line ∷ lines) = if is_skipped line then rule_lines_fro
 abbrev pub rule_lines : List ℕ → List (ℕ × List ℕ)
 rule_lines text = rule_lines_from 1 (lines text)
 
--- a line's rule before others; the first fault comes first
+-- a line's rule before others; the first fault wins
 abbrev pub with_rule : ℕ → Result Rule ℕ → Result (List Rule) RuleFault → Result (List Rule) RuleFault
 with_rule number (Err place) others = Err (Line number place)
 with_rule number (Ok rule) (Err fault) = Err fault

@@ -13,7 +13,7 @@ use Rattle.sqlite.specs.Effect.{Database}
 use Rattle.sqlite.specs.Files.{file_state, image_of, IsClosed}
 use Rattle.sqlite.specs.Held.{Held}
 use Rattle.keeper_sql.specs.Store.{TellsAs, tables_of}
-use Rattle.keeper_file.specs.Closing.{HoldsWhole, AreWhole, IsCopyOf, LeavesOnly}
+use Rattle.keeper_file.specs.Closing.{HoldsWhole, AreWhole, IsCopyOf, StoreLeavesOnly}
 use Rattle.keeper_file.specs.Images.{ImageTells}
 use Rattle.keeper_file.proofs.SameLemmas.{is_told_open, ShowsLastCommit}
 use Rattle.keeper_file.proofs.CrashLemmas.{told_trees, ours_told, leaves_commit}
@@ -34,7 +34,7 @@ module _ {D : Type 0} {g : Ghosts D} (was : Held (FileStore D g)) (settled : Sho
   whole_then files copied =
       record { now = whole_at (image_of g files) copied.seen; crash = λ image left. whole_at image (copied.left image left) }
 
-  pub alone_then : (last : FileStore D g) → SeenMayStay g → IsClosed was last → LeavesOnly g last t
+  pub alone_then : (last : FileStore D g) → SeenMayStay g → IsClosed was last → StoreLeavesOnly g last t
   alone_then last stays closed db may =
       let is_open = is_told_open b (file_state was) t told in
       ap tables_of (leaves_commit was stays is_open (ap (λ (d : Database). d.trees) (settled is_open)) db (closed.quiet.outcomes db may))

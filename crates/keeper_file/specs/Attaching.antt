@@ -7,15 +7,15 @@ use Rattle.keeper_core.specs.declared.fault.AttachFault.{AttachFault}
 use Rattle.keeper_core.specs.declared.fault.AttachFault.TheVariants as fault
 use Rattle.sqlite_trees.specs.declared.store.Store.{Ghosts}
 use Rattle.keeper_file.specs.OpenerFiles.{FilesOf}
-use Rattle.keeper_file.specs.Cases.{Tells, HasVersion, IsHonest, MayLeave, is_open, is_in_memory, is_attached, is_stopped, faults_of}
+use Rattle.keeper_file.specs.Cases.{Tells, HasVersion, IsHonest, MayLeave, has_open_store, is_in_memory, is_attached, is_stopped, faults_of}
 use Rattle.keeper_file.specs.Cases.{path_of}
 use Rattle.keeper_file.specs.declared.inner.Inner.{Inner}
 
 module _ {A O : Type 0} {g : Ghosts A} where
   -- what was opened now is in memory if and only if the path is `:memory:`; what was open stays so
   pub record OpensAtPlace (old new : Inner A O g) (at : List ℕ) : Type 0 where
-    pub memory : is_open old ≡ false → is_open new ≡ true → (is_in_memory new ≡ true) ↔ (at ≡ codes ":memory:")
-    pub same : is_open old ≡ true → is_in_memory new ≡ is_in_memory old
+    pub memory : has_open_store old ≡ false → has_open_store new ≡ true → (is_in_memory new ≡ true) ↔ (at ≡ codes ":memory:")
+    pub same : has_open_store old ≡ true → is_in_memory new ≡ is_in_memory old
 
 module _ {A O : Type 0} (files : FilesOf O) (g : Ghosts A) where
   -- the promise of each keeper for an attach
@@ -42,5 +42,5 @@ module _ {A O : Type 0} (files : FilesOf O) (g : Ghosts A) where
 
   -- while no store is open after it, the keeper tells what it told before, and a crash leaves exactly that
   abbrev pub SparesFiles : Inner A O g → Inner A O g → Type 0
-  SparesFiles old new = is_open new ≡ false → IsHonest files g new → (t : Tables) → Tells files g old t
+  SparesFiles old new = has_open_store new ≡ false → IsHonest files g new → (t : Tables) → Tells files g old t
       → IsDurable (Tells files g new) (MayLeave files g new) t

@@ -39,5 +39,5 @@ module _ {D : Type 0} (g : Ghosts D) where
     pub is : copy ≡ record image { log = [] }
 
   -- a crash of what is left of a store leaves exactly these tables
-  abbrev pub LeavesOnly : FileStore D g → Tables → Type 0
-  LeavesOnly store t = (db : Trees) → recovers store db → tables_of db ≡ t
+  abbrev pub StoreLeavesOnly : FileStore D g → Tables → Type 0
+  StoreLeavesOnly store t = (db : Trees) → recovers store db → tables_of db ≡ t

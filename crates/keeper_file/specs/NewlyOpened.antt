@@ -4,13 +4,13 @@ use Rattle.tap_rows.specs.declared.tables.Tables.{Tables}
 use Rattle.sqlite_trees.specs.declared.store.Store.{Ghosts}
 use Rattle.keeper_file.specs.Images.{ImageTells, ImageHasVersion}
 use Rattle.keeper_file.specs.OpenerFiles.{FilesOf}
-use Rattle.keeper_file.specs.Cases.{Tells, HasVersion, IsHonest, is_open, is_attached, is_stopped, faults_of, path_of}
+use Rattle.keeper_file.specs.Cases.{Tells, HasVersion, IsHonest, has_open_store, is_attached, is_stopped, faults_of, path_of}
 use Rattle.keeper_file.specs.declared.inner.Inner.{Inner}
 
 module _ {A O : Type 0} (files : FilesOf O) (g : Ghosts A) where
   -- a store is open, and was never attached; if the disk was honest, it tells the tables and the version that the files held
   pub record IsNewlyOpened (new : Inner A O g) : Type 0 where
-    pub opened : is_open new ≡ true
+    pub opened : has_open_store new ≡ true
     pub unattached : is_attached new ≡ false
     pub running : is_stopped new ≡ false
     pub pathless : path_of new ≡ []

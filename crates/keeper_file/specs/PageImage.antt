@@ -1,4 +1,4 @@
--- Pages that are a whole file, as two files that stand for them: no log, and the pages in a row.
+-- Pages that are a whole file, as two files: an empty log, and the pages in a row.
 use Rattle.std.proofs.Common.{◌≡◌, ◌↔◌, ℕ, zero, suc, ◌+◌, ◌-◌, ◌*◌, ◌/◌, ◌<◌, ◌≤◌, ◌&&◌, leb, true≢false}
 use Rattle.std.proofs.Common.{List, [], ◌∷◌, ◌++◌, length, take, drop, option_map, Option, Some, None, IsSome, unwrap_or}
 use Rattle.std.proofs.Common.{inl, inr, refl, sym, ap, subst, ◌∙◌, arith, take_at, length-append, mul-le-mul_right}

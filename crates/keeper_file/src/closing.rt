@@ -10,7 +10,7 @@ ghost use Rattle.tap_rows.specs.declared.tables.Tables.{Tables as TableRows};
 ghost use Rattle.keeper_sql.specs.Store.{TellsAs};
 ghost use Rattle.keeper_file.specs.Cases.{Tells, IsHonest, IsInMemory, has_files, is_stopped};
 ghost use Rattle.keeper_file.specs.Cases.{path_of};
-ghost use Rattle.keeper_file.specs.Closing.{AreUsable, AreWhole, LeavesOnly};
+ghost use Rattle.keeper_file.specs.Closing.{AreUsable, AreWhole, StoreLeavesOnly};
 ghost use Rattle.keeper_file.specs.Failing.{FailsToCloseOpen};
 
 use crate::inner::Inner;
@@ -38,7 +38,7 @@ pub fn closed<D: Disk + Drop>(
         → AreWhole D.Disk files t) }
     ensures exact { IfErr result (λ left. IsTrue (view left.1).is_clean
         → (t : TableRows) → TellsAs keeper.attached (file_state keeper.connection) t
-        → LeavesOnly D.Disk left.1 t) }
+        → StoreLeavesOnly D.Disk left.1 t) }
 
     // The disk failed, it was out of memory, or the store was shut before.
     ensures fails { IfErr result (λ left. IsTrue (view left.1).is_clean
@@ -64,7 +64,8 @@ pub fn close_inner<D: Disk + Drop, O: Opener<FileStore<D>>>(
     ensures whole { IfOk result (λ files. IfSome files (λ both. AreClean D.Disk both.log both.db
         → (t : TableRows) → Tells O.Opener.files over_files inner t → AreWhole D.Disk both t)) }
     ensures exact { IfErr result (λ left. IsTrue (view left.1).is_clean
-        → (t : TableRows) → Tells O.Opener.files over_files inner t → LeavesOnly D.Disk left.1 t) }
+        → (t : TableRows) → Tells O.Opener.files over_files inner t
+        → StoreLeavesOnly D.Disk left.1 t) }
     ensures fails { IfErr result (λ left. IsTrue (view left.1).is_clean
         → FailsToCloseOpen inner left.1 left.0) }
 {

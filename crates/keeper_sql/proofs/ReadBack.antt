@@ -1,4 +1,4 @@
--- What is written is read back as it was.
+-- What is written is read back unchanged.
 use Rattle.std.proofs.Common.{◌≡◌, ◌<◌, ◌^◌, sym, ℕ, List, [], ◌∷◌, ◌++◌, map, pos, ap, ◌∙◌, arith}
 use Rattle.std.proofs.lemmas.Bool.Decides.{nat_tests}
 use Rattle.std.proofs.lemmas.List.{map-append}

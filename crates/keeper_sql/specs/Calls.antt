@@ -37,8 +37,8 @@ module _ {S : Type 0} (g : Ghosts S) (old new : Held S) where
       HasCleanDisk (state g new) → (state g old).now.schema ≡ store_schema → OnErr result (Undone (state g old) (state g new))
 
   -- a read of a store that has all its tables returns this of its database
-  abbrev pub Reads : {T : Type 0} → Result T Error → (Database → T → Type 0) → Type 0
-  Reads result Of = HasCleanDisk (state g new) → (state g old).now.schema ≡ store_schema → IfOk result (λ x. Of (state g old).now x)
+  abbrev pub ReadsStore : {T : Type 0} → Result T Error → (Database → T → Type 0) → Type 0
+  ReadsStore result Of = HasCleanDisk (state g new) → (state g old).now.schema ≡ store_schema → IfOk result (λ x. Of (state g old).now x)
 
   -- a call in a transaction returns this if it succeeds
   abbrev pub Gives : {T : Type 0} → Result T Error → (T → State → State → Type 0) → Type 0

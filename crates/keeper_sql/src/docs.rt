@@ -4,7 +4,7 @@ ghost use Rattle.std.specs.Prelude.{◌≡◌, ◌<◌, ◌^◌, [], ◌∷◌, 
 ghost use Rattle.sqlite.specs.Values.{bound};
 ghost use Rattle.keeper_sql.specs.RowsAsValues.{given_doc, doc_in, doc_kinds, doc_shown, as_kept};
 ghost use Rattle.keeper_sql.specs.Store.{only, RowsWritten};
-ghost use Rattle.keeper_sql.specs.Calls.{AreRowsOf, CommitsNothing, Does, DoesOrUndoes, Reads};
+ghost use Rattle.keeper_sql.specs.Calls.{AreRowsOf, CommitsNothing, Does, DoesOrUndoes, ReadsStore};
 ghost use Rattle.keeper_sql.specs.Calls.{ReadsOnly, ReadsOrUndoes};
 ghost use Rattle.keeper_sql.specs.Schema.{insert_doc, select_docs};
 ghost use Rattle.keeper_sql.specs.Failing.{FailsBy, FailsToInsert, FailsToRead, FailsToWrite};
@@ -88,7 +88,7 @@ impl TableRow for Doc {
 pub fn read_docs<S: Alter>(alloc: Global, tx: &mut Transaction<'_, S>) -> Result<Rows<Doc>, Error>
     ensures same_reference { tx.new.conn.ghost_name ≡ tx.old.conn.ghost_name }
     ensures same { ReadsOnly S.Store tx.old.conn.now tx.new.conn.now result }
-    ensures read { Reads S.Store tx.old.conn.now tx.new.conn.now result (AreRowsOf 1 doc_in) }
+    ensures read { ReadsStore S.Store tx.old.conn.now tx.new.conn.now result (AreRowsOf 1 doc_in) }
     ensures err { ReadsOrUndoes S.Store tx.old.conn.now tx.new.conn.now result }
     ensures survives { CommitsNothing S.Store tx.old.conn.now tx.new.conn.now }
     ensures fails { FailsBy S.Store tx.old.conn.now tx.new.conn.now result

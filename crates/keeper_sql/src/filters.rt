@@ -5,7 +5,7 @@ ghost use Rattle.sqlite.specs.Values.{bound};
 ghost use Rattle.keeper_sql.specs.RowsAsValues.{given_filter, filter_in, filter_kinds};
 ghost use Rattle.keeper_sql.specs.RowsAsValues.{filter_shown, as_kept};
 ghost use Rattle.keeper_sql.specs.Store.{only, RowsWritten};
-ghost use Rattle.keeper_sql.specs.Calls.{AreRowsOf, CommitsNothing, Does, DoesOrUndoes, Reads};
+ghost use Rattle.keeper_sql.specs.Calls.{AreRowsOf, CommitsNothing, Does, DoesOrUndoes, ReadsStore};
 ghost use Rattle.keeper_sql.specs.Calls.{ReadsOnly, ReadsOrUndoes};
 ghost use Rattle.keeper_sql.specs.Schema.{insert_filter, select_filters};
 ghost use Rattle.keeper_sql.specs.Failing.{FailsBy, FailsToRead, FailsToWrite};
@@ -76,7 +76,8 @@ pub fn read_filters<S: Alter>(
 ) -> Result<Rows<FilterRow>, Error>
     ensures same_reference { tx.new.conn.ghost_name ≡ tx.old.conn.ghost_name }
     ensures same { ReadsOnly S.Store tx.old.conn.now tx.new.conn.now result }
-    ensures read { Reads S.Store tx.old.conn.now tx.new.conn.now result (AreRowsOf 6 filter_in) }
+    ensures read { ReadsStore S.Store tx.old.conn.now tx.new.conn.now result
+        (AreRowsOf 6 filter_in) }
     ensures err { ReadsOrUndoes S.Store tx.old.conn.now tx.new.conn.now result }
     ensures survives { CommitsNothing S.Store tx.old.conn.now tx.new.conn.now }
     ensures fails { FailsBy S.Store tx.old.conn.now tx.new.conn.now result

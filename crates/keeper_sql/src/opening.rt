@@ -4,7 +4,7 @@ ghost use Rattle.std.specs.Prelude.{◌≡◌, map};
 ghost use Rattle.keeper_sql.specs.RowsAsValues.{tables_in, doc_in, note_in, query_in, run_in};
 ghost use Rattle.keeper_sql.specs.RowsAsValues.{pick_in, filter_in};
 ghost use Rattle.keeper_sql.specs.Store.{AreAllKeyed};
-ghost use Rattle.keeper_sql.specs.Calls.{CommitsNothing, Reads, ReadsOnly, ReadsOrUndoes};
+ghost use Rattle.keeper_sql.specs.Calls.{CommitsNothing, ReadsStore, ReadsOnly, ReadsOrUndoes};
 ghost use Rattle.keeper_sql.specs.Failing.{FailsToReadTables, FailsWithin};
 
 use crate::docs::read_docs;
@@ -41,7 +41,8 @@ fn read_written<S: Alter>(
 ) -> Result<EarlierTables, Error>
     ensures same_reference { tx.new.conn.ghost_name ≡ tx.old.conn.ghost_name }
     ensures same { ReadsOnly S.Store tx.old.conn.now tx.new.conn.now result }
-    ensures read { Reads S.Store tx.old.conn.now tx.new.conn.now result (λ db all. AreAllKeyed db
+    ensures read { ReadsStore S.Store tx.old.conn.now tx.new.conn.now result (λ db all.
+        AreAllKeyed db
         → (all.docs ≡ map doc_in (db.trees 1)) × (all.notes ≡ map note_in (db.trees 2))
         × (all.queries ≡ map query_in (db.trees 3))) }
     ensures err { ReadsOrUndoes S.Store tx.old.conn.now tx.new.conn.now result }
@@ -70,7 +71,8 @@ fn read_written<S: Alter>(
 fn read_derived<S: Alter>(alloc: Global, tx: &mut Transaction<'_, S>) -> Result<LaterTables, Error>
     ensures same_reference { tx.new.conn.ghost_name ≡ tx.old.conn.ghost_name }
     ensures same { ReadsOnly S.Store tx.old.conn.now tx.new.conn.now result }
-    ensures read { Reads S.Store tx.old.conn.now tx.new.conn.now result (λ db all. AreAllKeyed db
+    ensures read { ReadsStore S.Store tx.old.conn.now tx.new.conn.now result (λ db all.
+        AreAllKeyed db
         → (all.runs ≡ map run_in (db.trees 4)) × (all.picks ≡ map pick_in (db.trees 5))
         × (all.filters ≡ map filter_in (db.trees 6))) }
     ensures err { ReadsOrUndoes S.Store tx.old.conn.now tx.new.conn.now result }
@@ -99,7 +101,8 @@ fn read_derived<S: Alter>(alloc: Global, tx: &mut Transaction<'_, S>) -> Result<
 pub fn read_tables<S: Alter>(alloc: Global, tx: &mut Transaction<'_, S>) -> Result<Tables, Error>
     ensures same_reference { tx.new.conn.ghost_name ≡ tx.old.conn.ghost_name }
     ensures same { ReadsOnly S.Store tx.old.conn.now tx.new.conn.now result }
-    ensures read { Reads S.Store tx.old.conn.now tx.new.conn.now result (λ db tables. AreAllKeyed db
+    ensures read { ReadsStore S.Store tx.old.conn.now tx.new.conn.now result (λ db tables.
+        AreAllKeyed db
         → tables ≡ tables_in db.trees) }
     ensures err { ReadsOrUndoes S.Store tx.old.conn.now tx.new.conn.now result }
     ensures survives { CommitsNothing S.Store tx.old.conn.now tx.new.conn.now }

@@ -5,7 +5,7 @@ ghost use Rattle.sqlite.specs.Values.{bound};
 ghost use Rattle.keeper_sql.specs.RowsAsValues.{given_query, query_in, query_kinds, query_shown};
 ghost use Rattle.keeper_sql.specs.RowsAsValues.{as_kept};
 ghost use Rattle.keeper_sql.specs.Store.{only, RowsWritten};
-ghost use Rattle.keeper_sql.specs.Calls.{AreRowsOf, CommitsNothing, Does, DoesOrUndoes, Reads};
+ghost use Rattle.keeper_sql.specs.Calls.{AreRowsOf, CommitsNothing, Does, DoesOrUndoes, ReadsStore};
 ghost use Rattle.keeper_sql.specs.Calls.{ReadsOnly, ReadsOrUndoes};
 ghost use Rattle.keeper_sql.specs.Schema.{insert_query, select_queries};
 ghost use Rattle.keeper_sql.specs.Failing.{FailsBy, FailsToRead, FailsToWrite};
@@ -79,7 +79,8 @@ pub fn read_queries<S: Alter>(
 ) -> Result<Rows<QueryRow>, Error>
     ensures same_reference { tx.new.conn.ghost_name ≡ tx.old.conn.ghost_name }
     ensures same { ReadsOnly S.Store tx.old.conn.now tx.new.conn.now result }
-    ensures read { Reads S.Store tx.old.conn.now tx.new.conn.now result (AreRowsOf 3 query_in) }
+    ensures read { ReadsStore S.Store tx.old.conn.now tx.new.conn.now result
+        (AreRowsOf 3 query_in) }
     ensures err { ReadsOrUndoes S.Store tx.old.conn.now tx.new.conn.now result }
     ensures survives { CommitsNothing S.Store tx.old.conn.now tx.new.conn.now }
     ensures fails { FailsBy S.Store tx.old.conn.now tx.new.conn.now result

@@ -5,7 +5,8 @@ ghost use Rattle.sqlite.specs.Held.{state};
 ghost use Rattle.sqlite.specs.State.{HasCleanDisk};
 ghost use Rattle.keeper_sql.specs.RowsAsValues.{version_in, version_kinds, version_shown};
 ghost use Rattle.keeper_sql.specs.Store.{Undone, Raises, Settles, AreKeyed, IsMeta, IsAtVersion};
-ghost use Rattle.keeper_sql.specs.Calls.{CommitsNothing, Does, DoesOrUndoes, Gives, InStore, Reads};
+ghost use Rattle.keeper_sql.specs.Calls.{CommitsNothing, Does, DoesOrUndoes, Gives, InStore};
+ghost use Rattle.keeper_sql.specs.Calls.{ReadsStore};
 ghost use Rattle.keeper_sql.specs.Calls.{ReadsOnly, ReadsOrUndoes};
 ghost use Rattle.keeper_sql.specs.Schema.{replace_meta, select_meta};
 ghost use Rattle.keeper_sql.specs.Failing.{FailsBy, FailsToRead, FailsToSettle, FailsToTakeRows};
@@ -29,7 +30,7 @@ fn version_of(shown: &[Row]) -> Result<Option<i64>, Error>
 pub fn read_version<S: Alter>(tx: &mut Transaction<'_, S>) -> Result<Option<i64>, Error>
     ensures same_reference { tx.new.conn.ghost_name ≡ tx.old.conn.ghost_name }
     ensures same { ReadsOnly S.Store tx.old.conn.now tx.new.conn.now result }
-    ensures read { Reads S.Store tx.old.conn.now tx.new.conn.now result (λ db version.
+    ensures read { ReadsStore S.Store tx.old.conn.now tx.new.conn.now result (λ db version.
         AreKeyed (db.trees 0) → version ≡ version_in (db.trees 0)) }
     ensures err { ReadsOrUndoes S.Store tx.old.conn.now tx.new.conn.now result }
     ensures survives { CommitsNothing S.Store tx.old.conn.now tx.new.conn.now }

@@ -53,8 +53,8 @@ fn keep_two<P: Keeper>(alloc: Global, keeper: &mut P, one: &Change, two: &Change
     }
 }
 
-// What a keeper that kept two documents says: the status, the number of documents and the version
-// then, and the number of documents that a crash leaves.
+// What a keeper that committed two documents says: the status, the number of documents and the
+// version then, and the number of documents that a crash leaves.
 type Kept = (u8, usize, i64, usize);
 
 // Commits two documents over a keeper of a version whose calls fail so.
@@ -81,7 +81,7 @@ fn kept(alloc: Global, version: i64, fail: Option<KeepPlan>) -> Result<Kept, Mem
     Ok(kept)
 }
 
-// Returns a plan by which the call of this number fails, with its rows kept or not.
+// Returns a plan by which the call of this number fails, with its rows committed or not.
 fn plan_of(fail: Option<(u64, bool)>) -> Option<KeepPlan> {
     fail.map(|(call, kept)| KeepPlan { call, kept })
 }

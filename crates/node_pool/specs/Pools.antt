@@ -18,8 +18,8 @@ module _ {N : Type 0} (eq : N → N → Bool) (nodes : List N) (node : N) where
   with_node = if list_any (eq node) nodes then nodes else nodes ++ node ∷ []
 
   -- the node's number: its place, or the first free one
-  abbrev pub number_of : ℕ
-  number_of = position_or_len (eq node) nodes
+  abbrev pub number_of_node : ℕ
+  number_of_node = position_or_len (eq node) nodes
 
 -- the new list is the old one and more
 pub record Extends {N : Type 0} (old new : List N) : Type 0 where

@@ -2,7 +2,7 @@
 ghost use Rattle.std.specs.Prelude.{◌≡◌, ◌<◌, ◌^◌, List, [], length, slice_get, Some, true, IfOk};
 ghost use Rattle.std.specs.Prelude.{OnOk, OnErr};
 ghost use Rattle.tap_base.specs.Bytes.{IsPlaceOf};
-ghost use Rattle.node_pool.specs.Pools.{are_below, IsPool, with_node, number_of, Extends};
+ghost use Rattle.node_pool.specs.Pools.{are_below, IsPool, with_node, number_of_node, Extends};
 
 use crate::{NodeId, PoolNode};
 use indexmap::IndexSet;
@@ -48,7 +48,7 @@ impl<N: PoolNode + Drop> Pool<N> {
         requires kids { are_below (length self.old) (N.kids node) ≡ true }
         requires room { length self.old < NODE_LIMIT }
         ensures nodes { OnOk result (self.new ≡ with_node N.eq self.old node) }
-        ensures number { IfOk result (λ id. id.0 ≡ number_of N.eq self.old node) }
+        ensures number { IfOk result (λ id. id.0 ≡ number_of_node N.eq self.old node) }
         ensures found { IfOk result (λ id. slice_get self.new id.0 ≡ Some node) }
         ensures err { OnErr result (self.new ≡ self.old) }
         ensures extends { Extends self.old self.new }

@@ -20,7 +20,6 @@ use Rattle.tql_core.specs.declared.atom.TextField.TheVariants.{From, Subject, Ms
 use Rattle.tql_core.specs.declared.atom.ListField.TheVariants.{References, Words}
 use Rattle.tql_core.specs.Row.{Row, OfDoc, OfNote, arrival}
 use Rattle.tql_core.specs.Values.{field, both, both_texts, text_cmp, text_field, list_field, has}
-use Rattle.row_index.specs.Texts as texts
 use Rattle.row_index.specs.Texts.{with_text, msgids, parents, senders, subjects, references_in, words_in}
 use Rattle.row_index.specs.Orders.{Numbered, doc_number}
 use Rattle.row_index.specs.Held.{indexed_notes}
@@ -168,34 +167,34 @@ word_asked (x ∷ xs) text = rw (same_text x text, word_asked xs text) refl
 module _ (docs : List Doc) (text : List ℕ) where
   pub msgid_picked : map OfDoc (with_text msgids text docs)
       ≡ filter (λ row. both_texts Eq (text_field MsgId row) (Some text)) (map OfDoc docs)
-  unfolding fields texts.fields
+  unfolding fields
   msgid_picked = picked OfDoc (λ doc. list_any (λ other. bytes_eq text other) (msgids doc)) _ docs (λ d. text_asked (fields d).msgid text)
 
   pub parent_picked : map OfDoc (with_text parents text docs)
       ≡ filter (λ row. both_texts Eq (text_field InReplyTo row) (Some text)) (map OfDoc docs)
-  unfolding fields texts.fields
+  unfolding fields
   parent_picked =
       picked OfDoc (λ doc. list_any (λ other. bytes_eq text other) (parents doc)) _ docs (λ d. text_asked (fields d).inreplyto text)
 
   pub sender_picked : map OfDoc (with_text senders text docs)
       ≡ filter (λ row. both_texts Eq (text_field From row) (Some text)) (map OfDoc docs)
-  unfolding fields texts.fields
+  unfolding fields
   sender_picked = picked OfDoc (λ doc. list_any (λ other. bytes_eq text other) (senders doc)) _ docs (λ d. text_asked (fields d).from text)
 
   pub subject_picked : map OfDoc (with_text subjects text docs)
       ≡ filter (λ row. both_texts Eq (text_field Subject row) (Some text)) (map OfDoc docs)
-  unfolding fields texts.fields
+  unfolding fields
   subject_picked =
       picked OfDoc (λ doc. list_any (λ other. bytes_eq text other) (subjects doc)) _ docs (λ d. text_asked (fields d).subject text)
 
   pub reference_picked : map OfDoc (with_text references_in text docs)
       ≡ filter (λ row. has (list_field References row) (Some text)) (map OfDoc docs)
-  unfolding fields texts.fields
+  unfolding fields
   reference_picked =
       picked OfDoc (λ doc. list_any (λ other. bytes_eq text other) (references_in doc)) _ docs (λ d. word_asked (fields d).references text)
 
   pub word_picked : map OfDoc (with_text words_in text docs) ≡ filter (λ row. has (list_field Words row) (Some text)) (map OfDoc docs)
-  unfolding fields texts.fields
+  unfolding fields
   word_picked = picked OfDoc (λ doc. list_any (λ other. bytes_eq text other) (words_in doc)) _ docs (λ d. word_asked (fields d).words text)
 
 -- the same where the text may be absent

@@ -14,7 +14,6 @@ use Rattle.tql_core.specs.Row.{Row, OfDoc, OfNote, arrival, date, rows_of}
 use Rattle.tap_rows.specs.Kept.{In}
 use Rattle.tql_core.specs.Values.{bind, lookup, on_row, value}
 use Rattle.row_index.specs.Orders.{in_window, doc_arrival, note_arrival}
-use Rattle.row_index.specs.Texts as texts
 use Rattle.row_index.specs.Dates.{has_date, stored_date, is_earlier, put_dated, in_date_order, dated_in}
 use Rattle.time_marks.specs.declared.seek.Seek.{Seek}
 use Rattle.time_marks.specs.declared.seek.Seek.TheVariants.{Arrived, Dated, Fixed, ArrivedDay, DatedDay}
@@ -90,7 +89,7 @@ order_of_in x ds i h = fold_in x [] (filter has_date ds) (inr (to_filter has_dat
 
 -- a date in a window
 pub date_lies : (w : Window) (d : Doc) → lies_in w (date (OfDoc d)) ≡ (has_date d && is_within w (stored_date d))
-unfolding fields texts.fields
+unfolding fields
 date_lies w d = go (fields d).date
   where
     go : (o : Option ℤ) → lies_in w o ≡ (is_some o && is_within w (unwrap_or o (pos 0)))

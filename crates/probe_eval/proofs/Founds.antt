@@ -48,7 +48,7 @@ le_back x y h = grind (arith, ints)
 lt_back : (x y : ℤ) → int_lt x y ≡ true → x <ℤ y
 lt_back x y h = grind (arith, ints)
 
--- the mark of a kept probe can be solved
+-- the mark of a probe that stays can be solved
 near_plus : (at : Term) → is_bounded at ≡ true → is_near (seek_plus (seek_of at)) ≡ true
 near_plus at h = let k = and_parts (is_near at.plus) (is_bounded_base at.base at.plus) h in go at.base at.plus k.0 k.1
   where

@@ -10,7 +10,7 @@ use Rattle.tap_rows.specs.declared.rows.Doc.{Doc}
 use Rattle.tap_rows.specs.declared.tables.Tables.{Tables}
 use Rattle.tap_rows.specs.Kept.{In}
 use Rattle.tql_core.specs.Row.{Row, OfDoc, OfNote}
-use Rattle.row_index.specs.Orders.{Rising, doc_arrival, doc_rank, up_to}
+use Rattle.row_index.specs.Orders.{IsRisingBy, doc_arrival, doc_rank, up_to}
 use Rattle.row_index.proofs.Halves.{rising_kept}
 use Rattle.probe_eval.specs.declared.side.Side.{Side}
 use Rattle.probe_eval.specs.declared.side.Side.TheVariants.{Above, Below}
@@ -180,10 +180,11 @@ for_tables side test T None h = tt
 for_tables side test T (Some num) h = h T
 
 -- documents in order that are left up to a second are in order of number
-pub numbers_up_to : (docs left : List Doc) (last : ℤ) → left ≡ up_to doc_arrival last docs → IsSorted docs → Rising doc_rank left
-numbers_up_to docs left last e s = subst (Rising doc_rank) (sym e) (rising_kept doc_rank (λ d. int_le d.arrival last) docs s.numbers)
+pub numbers_up_to : (docs left : List Doc) (last : ℤ) → left ≡ up_to doc_arrival last docs → IsSorted docs → IsRisingBy doc_rank left
+numbers_up_to docs left last e s = subst (IsRisingBy doc_rank) (sym e) (rising_kept doc_rank (λ d. int_le d.arrival last) docs s.numbers)
 
 -- so are those above a number
-pub numbers_above : (docs left : List Doc) (low : Option DocNum) → left ≡ cut_above low docs → Rising doc_rank docs → Rising doc_rank left
-numbers_above docs left None e r = subst (Rising doc_rank) (sym e) r
-numbers_above docs left (Some num) e r = subst (Rising doc_rank) (sym e) (rising_kept doc_rank (λ d. nat_lt num.0 d.num.0) docs r)
+pub numbers_above : (docs left : List Doc) (low : Option DocNum) → left ≡ cut_above low docs → IsRisingBy doc_rank docs
+    → IsRisingBy doc_rank left
+numbers_above docs left None e r = subst (IsRisingBy doc_rank) (sym e) r
+numbers_above docs left (Some num) e r = subst (IsRisingBy doc_rank) (sym e) (rising_kept doc_rank (λ d. nat_lt num.0 d.num.0) docs r)

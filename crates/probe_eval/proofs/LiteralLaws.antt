@@ -26,7 +26,6 @@ use Rattle.tql_core.specs.Row.{OfDoc}
 use Rattle.tql_core.specs.Values.{bind, text_field, list_field, both_texts, has, true_atom}
 use Rattle.row_index.specs.declared.text_kind.TextKind.{TextKind}
 use Rattle.row_index.specs.Orders.{in_window, doc_arrival}
-use Rattle.row_index.specs.Texts as texts
 use Rattle.row_index.specs.Texts.{texts_of, with_text}
 use Rattle.time_marks.specs.declared.mark.Step.{Step}
 use Rattle.time_marks.specs.declared.seek.Seek.{Seek}
@@ -62,7 +61,7 @@ turned_asked (Some x) t = or_false (bytes_eq t x) ∙ sym (is_eq-slice_cmp t x)
 module _ (d : Doc) (t : List ℕ) where
   field_same : (f : TextField) (kind : TextKind) → field_kind f ≡ Some kind
       → list_any (λ other. bytes_eq t other) (texts_of kind d) ≡ both_texts Eq (text_field f (OfDoc d)) (Some t)
-  unfolding fields texts.fields
+  unfolding fields
   field_same From kind h = ap (λ k. list_any (λ other. bytes_eq t other) (texts_of k d)) (sym (some_same h)) ∙ text_asked (fields d).from t
   field_same Subject kind h = ap (λ k. list_any (λ other. bytes_eq t other) (texts_of k d)) (sym (some_same h))
       ∙ text_asked (fields d).subject t
@@ -74,7 +73,7 @@ module _ (d : Doc) (t : List ℕ) where
 
   field_turned : (f : TextField) (kind : TextKind) → field_kind f ≡ Some kind
       → list_any (λ other. bytes_eq t other) (texts_of kind d) ≡ both_texts Eq (Some t) (text_field f (OfDoc d))
-  unfolding fields texts.fields
+  unfolding fields
   field_turned From kind h = ap (λ k. list_any (λ other. bytes_eq t other) (texts_of k d)) (sym (some_same h))
       ∙ turned_asked (fields d).from t
   field_turned Subject kind h = ap (λ k. list_any (λ other. bytes_eq t other) (texts_of k d)) (sym (some_same h))
@@ -87,7 +86,7 @@ module _ (d : Doc) (t : List ℕ) where
 
   entry_same : (f : ListField) (kind : TextKind) → list_field_kind f ≡ Some kind
       → list_any (λ other. bytes_eq t other) (texts_of kind d) ≡ has (list_field f (OfDoc d)) (Some t)
-  unfolding fields texts.fields
+  unfolding fields
   entry_same References kind h = ap (λ k. list_any (λ other. bytes_eq t other) (texts_of k d)) (sym (some_same h))
       ∙ word_asked (fields d).references t
   entry_same Words kind h = ap (λ k. list_any (λ other. bytes_eq t other) (texts_of k d)) (sym (some_same h))

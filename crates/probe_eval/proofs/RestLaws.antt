@@ -66,7 +66,7 @@ module _ (T : Tables) (path : List Step) (b : ℤ) (once : Distinct (vars_of pat
   pub fresh_var : (env : Env) (r : Reach) → IsNearest path env r → is_held env r.var.0 ≡ false
   fresh_var env r k = ap (λ (v : Var). is_held env v.0) k.var ∙ k.fresh
 
-  -- what is held stays as it is
+  -- a step that has a row keeps it
   pub kept_on : (env : Env) (r : Reach) (row : Row) → IsNearest path env r → (k : ℕ) → is_held env k ≡ true
       → lookup k (bind r.var row env) ≡ lookup k env
   kept_on env r row n k h = bind_other k r.var row env (λ e. false≢true (sym (fresh_var env r n) ∙ ap (is_held env) (sym e) ∙ h))

@@ -9,7 +9,7 @@ use Rattle.access_plan.specs.declared.access.Access.{Access}
 use Rattle.access_plan.specs.declared.access.Access.TheVariants.{ByMsgId, ByParent, BySender, BySubject}
 use Rattle.row_index.specs.declared.text_kind.TextKind.{TextKind}
 use Rattle.row_index.specs.declared.text_kind.TextKind.TheVariants as K
-use Rattle.row_index.specs.Orders.{InPlace, Rising, doc_arrival, doc_number, doc_rank}
+use Rattle.row_index.specs.Orders.{InPlace, IsRisingBy, doc_arrival, doc_number, doc_rank}
 use Rattle.row_index.specs.Texts.{is_single, texts_of, with_text}
 use Rattle.row_index.proofs.ListWindows.{listed_arrive, listed_numbers}
 use Rattle.probe_eval.specs.declared.single_lists.SingleList.{SingleList}
@@ -29,8 +29,8 @@ module _ (T : Tables) (stand : InPlace doc_number doc_arrival T.docs) (env : Env
       text = h.some;
       docs = h.docs ∙ ap (λ k. with_text (texts_of k) h.some T.docs) (sym h.kind);
       sorted = record {
-        arrivals = subst (Rising doc_arrival) (sym h.docs) (listed_arrive (texts_of kind) h.some T.docs stand);
-        numbers = subst (Rising doc_rank) (sym h.docs) (listed_numbers (texts_of kind) h.some T.docs stand);
+        arrivals = subst (IsRisingBy doc_arrival) (sym h.docs) (listed_arrive (texts_of kind) h.some T.docs stand);
+        numbers = subst (IsRisingBy doc_rank) (sym h.docs) (listed_numbers (texts_of kind) h.some T.docs stand);
       };
     };
     text = is ∙ h.is;

@@ -7,7 +7,7 @@ use Rattle.tql_core.specs.Values.{Env, text}
 use Rattle.access_plan.specs.declared.access.Access.{Access}
 use Rattle.access_plan.specs.declared.access.Access.TheVariants.{ByMsgId, ByParent, BySender, BySubject}
 use Rattle.row_index.specs.declared.text_kind.TextKind.{TextKind}
-use Rattle.row_index.specs.Orders.{Rising, doc_arrival, doc_rank}
+use Rattle.row_index.specs.Orders.{IsRisingBy, doc_arrival, doc_rank}
 use Rattle.row_index.specs.Texts.{is_single, texts_of, with_text}
 use Rattle.probe_eval.specs.declared.single_lists.SingleList.{SingleList}
 use Rattle.probe_eval.specs.Work.{rows_by}
@@ -22,8 +22,8 @@ single_text _ env = None
 
 -- documents in order of arrival and of number
 pub record IsSorted (docs : List Doc) : Type 0 where
-  pub arrivals : Rising doc_arrival docs
-  pub numbers : Rising doc_rank docs
+  pub arrivals : IsRisingBy doc_arrival docs
+  pub numbers : IsRisingBy doc_rank docs
 
 -- the list has the documents under the text, of this kind
 pub record IsUnder (own : TextKind) (text : Option (List ℕ)) (T : Tables) (found : SingleList) : Type 0 where

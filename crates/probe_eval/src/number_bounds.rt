@@ -3,7 +3,7 @@
 ghost use Rattle.std.specs.Prelude.{◌≡◌, IfSome};
 ghost use Rattle.tql_core.specs.Row.{OfDoc};
 ghost use Rattle.tql_core.specs.Values.{bind, true_atom};
-ghost use Rattle.row_index.specs.Orders.{Rising, doc_rank};
+ghost use Rattle.row_index.specs.Orders.{IsRisingBy, doc_rank};
 ghost use Rattle.probe_eval.specs.declared.side.Side.TheVariants.{Above, Below};
 ghost use Rattle.probe_eval.specs.Open.{may_hold};
 ghost use Rattle.probe_eval.specs.NumberBounds.{HasNumber, IsBoundBeside, RulesOut, cut_above};
@@ -67,7 +67,7 @@ pub(crate) fn bound_by(guard: &Atom, side: Side, var: Var, env: &Env) -> Option<
 
 // Returns the documents whose number is greater than the bound, or all if there is none.
 fn cut_above<'a>(docs: PostingList<'a>, bound: Option<DocNum>) -> PostingList<'a>
-    requires { Rising doc_rank docs }
+    requires { IsRisingBy doc_rank docs }
     ensures { result ≡ cut_above bound docs.entry }
 {
     match bound {
@@ -78,7 +78,7 @@ fn cut_above<'a>(docs: PostingList<'a>, bound: Option<DocNum>) -> PostingList<'a
 
 // Returns the documents whose number is less than the bound, or all if there is none.
 fn cut_below<'a>(docs: PostingList<'a>, bound: Option<DocNum>) -> PostingList<'a>
-    requires { Rising doc_rank docs }
+    requires { IsRisingBy doc_rank docs }
     ensures { result ≡ cut_below bound docs.entry }
 {
     match bound {
@@ -94,7 +94,7 @@ pub(crate) fn between<'a>(
     low: Option<DocNum>,
     high: Option<DocNum>,
 ) -> PostingList<'a>
-    requires { Rising doc_rank docs }
+    requires { IsRisingBy doc_rank docs }
     ensures { result ≡ between low high docs.entry }
 {
     cut_below(cut_above(docs, low), high)

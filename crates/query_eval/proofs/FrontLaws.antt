@@ -19,7 +19,7 @@ use Rattle.access_plan.specs.declared.reach.Reach.{Reach}
 use Rattle.row_index.specs.declared.text_kind.TextKind.{TextKind}
 use Rattle.row_index.specs.declared.text_kind.TextKind.TheVariants.{MsgId, Parent, Sender, Subject, Reference, Word}
 use Rattle.row_index.specs.contracts.text_kind.TextKindPartialEq.TheImpl as kind
-use Rattle.row_index.specs.Orders.{Rising, InPlace, doc_number, doc_arrival, doc_rank, doc_num}
+use Rattle.row_index.specs.Orders.{IsRisingBy, InPlace, doc_number, doc_arrival, doc_rank, doc_num}
 use Rattle.row_index.specs.Texts.{is_single, texts_of, with_text}
 use Rattle.row_index.proofs.SingleLists.{lists_of_one_kind_are_apart}
 use Rattle.probe_eval.specs.declared.search.Search.{Search}
@@ -91,7 +91,7 @@ module _ {A : Type 0} where
   front_and_rest (suc n) (x ∷ xs) = ap (λ ys. x ∷ ys) (front_and_rest n xs)
 
   -- what never falls doesn't fall behind a front
-  rising_behind : (f : A → ℤ) (n : ℕ) (xs : List A) → Rising f xs → Rising f (drop n xs)
+  rising_behind : (f : A → ℤ) (n : ℕ) (xs : List A) → IsRisingBy f xs → IsRisingBy f (drop n xs)
   rising_behind f zero xs h = h
   rising_behind f (suc n) [] h = h
   rising_behind f (suc n) (x ∷ xs) h = rising_behind f n xs h.1

@@ -1,4 +1,4 @@
--- How many nodes a form has, and how many EXISTS stand for one.
+-- How many nodes a form has, and how many EXISTS replace one.
 use Rattle.std.proofs.Common.{◌≡◌, ℕ, ◌+◌, ◌*◌, ◌≤◌, true, false, Bool, refl, sym, ◌∙◌, subst, inl, inr, arith}
 use Rattle.std.specs.Prelude.{◌⊎◌, ◌&&◌, ◌||◌, nat_le, if◌then◌else◌}
 use Rattle.std.proofs.Math.Nat.{le-mul_of_pos_right, one-le-mul, mul_comm, add-mul, one-mul}
@@ -83,7 +83,7 @@ module _ (v : Var) where
       → exists_count v (Either l r) ≡ (if k && h then exists_count v l + exists_count v r else 1)
   split_count l r k h e f = rw (e, f) refl
 
-  -- how many EXISTS stand for one if the sides of an OR have become x and y
+  -- how many EXISTS replace one if the sides of an OR have become x and y
   sides_count : (k h : Bool) (x y z : Condition) (n m w : ℕ) → (k ≡ true → has_key v x ≡ true) → (h ≡ true → has_key v y ≡ true)
       → exists_count v x ≡ n → exists_count v y ≡ m → exists_count v z ≡ w
       → exists_count v (if k && h then Either x y else z) ≡ (if k && h then n + m else w)

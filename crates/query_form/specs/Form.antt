@@ -167,7 +167,7 @@ distributed v (All l r) = cross v (distributed v l) (distributed v r)
 distributed v (Either l r) = Either (distributed v l) (distributed v r)
 distributed v x = x
 
--- what replaces an EXISTS, between the conjuncts before and after it; exists_count: how many EXISTS replace one
+-- what replaces an EXISTS, between the conjuncts before and after it
 abbrev pub beside : Var → Condition → Condition → Condition
 beside v x made = conjoined (conjuncts v Before x) (conjoined made (conjuncts v After x))
 
@@ -217,7 +217,7 @@ formed (Either l r) = Either (formed l) (formed r)
 formed (Not x) = Not (formed x)
 formed (Exists v t x) = formed_exists v t (formed x)
 
--- how many EXISTS stand for one in this condition
+-- how many EXISTS replace one in this condition
 abbrev pub exists_count : Var → Condition → ℕ
 exists_count v (Either l r) = if has_key v l && has_key v r then exists_count v l + exists_count v r else 1
 exists_count v x = 1

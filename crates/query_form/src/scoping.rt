@@ -64,7 +64,7 @@ pub(crate) fn conjuncts(alloc: Global, var: Var, place: Place, cond: &Cond) -> R
     }
 }
 
-// Makes the conjunction of what stands for an EXISTS and the conjuncts before and after it.
+// Makes the conjunction of what replaces an EXISTS and the conjuncts before and after it.
 pub(crate) fn beside(alloc: Global, var: Var, cond: &Cond, made: Cond) -> Result<Cond, Memory>
     ensures { IfOk result (λ x. condition x ≡ beside var (condition cond.now) (condition made)) }
 {

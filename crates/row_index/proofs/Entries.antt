@@ -4,7 +4,7 @@ use Rattle.std.specs.Prelude.{Vec}
 use Rattle.std.specs.Map.{lookup, set_value}
 use Rattle.std.proofs.lemmas.Bool.{cases_Bool, true≢false}
 use Rattle.indexmap.specs.IndexMap.{insert_entry}
-use Rattle.row_index.specs.Places.{under, posted, unposted, has_key, with_place, without_place}
+use Rattle.row_index.specs.Places.{under, posted, unposted, is_used_key, with_place, without_place}
 
 module _ {K Q : Type 0} (eq : Q → Q → Bool) (seen : K → Q) where
   abbrev pub finds : Q → K → Bool
@@ -31,7 +31,7 @@ module _ {Z K Q : Type 0} (eq : Q → Q → Bool) (seen : K → Q) where
         | inr b ↦ rw b (under_none key es (rw b at h))
       ]
 
-  pub absent : (key : Q) (es : List (K × Vec ℕ Z)) → lookup (finds eq seen key) es ≡ None → has_key eq key (plain es) ≡ false
+  pub absent : (key : Q) (es : List (K × Vec ℕ Z)) → lookup (finds eq seen key) es ≡ None → is_used_key eq key (plain es) ≡ false
   absent key [] h = refl
   absent key (e ∷ es) h =
       elim (cases_Bool (eq key (seen e.0))) [
@@ -42,7 +42,8 @@ module _ {Z K Q : Type 0} (eq : Q → Q → Bool) (seen : K → Q) where
   abbrev entries_with : List (K × Vec ℕ Z) → K → Vec ℕ Z → List (K × Vec ℕ Z)
   entries_with es k v = insert_entry (λ x y. eq (seen x) (seen y)) es k v
 
-  begun_with : (es : List (K × Vec ℕ Z)) (k : K) (v : Vec ℕ Z) (place : ℕ) → v.items ≡ place ∷ [] → has_key eq (seen k) (plain es) ≡ false
+  begun_with : (es : List (K × Vec ℕ Z)) (k : K) (v : Vec ℕ Z) (place : ℕ) → v.items ≡ place ∷ []
+      → is_used_key eq (seen k) (plain es) ≡ false
       → plain (entries_with es k v) ≡ posted eq (seen k) place (plain es)
   begun_with [] k v place f h = ap (λ z. (seen k, z) ∷ []) f
   begun_with (x ∷ es) k v place f h =
@@ -52,9 +53,9 @@ module _ {Z K Q : Type 0} (eq : Q → Q → Bool) (seen : K → Q) where
       ]
 
   pub begun : (es fs : List (K × Vec ℕ Z)) (k : K) (v : Vec ℕ Z) (key : Q) (place : ℕ) → fs ≡ entries_with es k v → (seen k) ≡ key
-      → v.items ≡ place ∷ [] → has_key eq key (plain es) ≡ false → plain fs ≡ posted eq key place (plain es)
+      → v.items ≡ place ∷ [] → is_used_key eq key (plain es) ≡ false → plain fs ≡ posted eq key place (plain es)
   begun es fs k v key place i e f h =
-      let h' : has_key eq (seen k) (plain es) ≡ false = ap (λ z. has_key eq z (plain es)) e ∙ h in
+      let h' : is_used_key eq (seen k) (plain es) ≡ false = ap (λ z. is_used_key eq z (plain es)) e ∙ h in
       ap plain i ∙ begun_with es k v place f h' ∙ ap (λ z. posted eq z place (plain es)) e
 
   pub changed : (key : Q) (place : ℕ) (es : List (K × Vec ℕ Z)) (v w : Vec ℕ Z) → lookup (finds eq seen key) es ≡ Some v
@@ -122,13 +123,13 @@ module _ {Z K Q : Type 0} (eq : Q → Q → Bool) (seen : K → Q) where
   put_none key place es fs ps p h f = ap plain f ∙ not_there key place es h ∙ ap (λ z. unposted eq key place z) p
 
   pub put_first : (key : Q) (place : ℕ) (es fs : List (K × Vec ℕ Z)) (ps : List (Q × List ℕ)) (k : K) (v : Vec ℕ Z) → plain es ≡ ps
-      → fs ≡ entries_with es k v → (seen k) ≡ key → v.items ≡ place ∷ [] → has_key eq key ps ≡ false → plain fs ≡ posted eq key place ps
-  put_first key place es fs ps k v p i e f h = begun es fs k v key place i e f (ap (λ z. has_key eq key z) p ∙ h)
+      → fs ≡ entries_with es k v → (seen k) ≡ key → v.items ≡ place ∷ [] → is_used_key eq key ps ≡ false → plain fs ≡ posted eq key place ps
+  put_first key place es fs ps k v p i e f h = begun es fs k v key place i e f (ap (λ z. is_used_key eq key z) p ∙ h)
       ∙ ap (λ z. posted eq key place z) p
 
   pub none_there : (key : Q) (es fs : List (K × Vec ℕ Z)) → fs ≡ es → lookup (finds eq seen key) es ≡ None
-      → has_key eq key (plain fs) ≡ false
-  none_there key es fs f h = ap (λ z. has_key eq key (plain z)) f ∙ absent key es h
+      → is_used_key eq key (plain fs) ≡ false
+  none_there key es fs f h = ap (λ z. is_used_key eq key (plain z)) f ∙ absent key es h
 
   pub under_some : (key : Q) (es : List (K × Vec ℕ Z)) (ps : List (Q × List ℕ)) (v : Vec ℕ Z) (xs : List ℕ) → plain es ≡ ps
       → lookup (finds eq seen key) es ≡ Some v → xs ≡ v.items → xs ≡ under eq key ps

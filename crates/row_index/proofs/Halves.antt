@@ -8,7 +8,7 @@ use Rattle.std.proofs.lemmas.Int.{ints}
 use Rattle.std.proofs.lemmas.List.{take_all, length-drop}
 use Rattle.std.proofs.lemmas.List.Elements.{filter_agree}
 use Rattle.std.proofs.lemmas.Bool.{cases_Bool, and_parts}
-use Rattle.row_index.specs.Orders.{Rising, in_window}
+use Rattle.row_index.specs.Orders.{IsRisingBy, in_window}
 
 module _ {A : Type 0} where
   none_pass : (p : A → Bool) (xs : List A) → ((k : ℕ) (d : A) → 0 ≤ k → k < length xs → p (slice_index_or xs k d) ≡ false)
@@ -63,7 +63,7 @@ module _ {A : Type 0} (f : A → ℤ) where
   le_self : (x : ℤ) → int_le x x ≡ true
   le_self x = grind (arith, ints)
 
-  rising_at : (xs : List A) (i j : ℕ) (d : A) → Rising f xs → i ≤ j → j < length xs
+  rising_at : (xs : List A) (i j : ℕ) (d : A) → IsRisingBy f xs → i ≤ j → j < length xs
       → int_le (f (slice_index_or xs i d)) (f (slice_index_or xs j d)) ≡ true
   rising_at [] i j d r a w = absurd (omega (arith, w))
   rising_at (x ∷ xs) zero zero d r a w = le_self (f x)
@@ -78,11 +78,11 @@ module _ {A : Type 0} (f : A → ℤ) where
   le_down x y m h k = grind (arith, ints)
 
   -- the rows before a moment come before the others
-  pub before_first : (m : ℤ) (xs : List A) → Rising f xs → IsPartitionedBy (λ x. int_lt (f x) m) xs
+  pub before_first : (m : ℤ) (xs : List A) → IsRisingBy f xs → IsPartitionedBy (λ x. int_lt (f x) m) xs
   before_first m xs r i j d a w h = lt_down _ _ m (rising_at xs i j d r a w) h
 
   -- and so do those up to a moment
-  pub up_to_first : (m : ℤ) (xs : List A) → Rising f xs → IsPartitionedBy (λ x. int_le (f x) m) xs
+  pub up_to_first : (m : ℤ) (xs : List A) → IsRisingBy f xs → IsPartitionedBy (λ x. int_le (f x) m) xs
   up_to_first m xs r i j d a w h = le_down _ _ m (rising_at xs i j d r a w) h
 
   all_kept : (p q : A → Bool) (xs : List A) → list_all p xs ≡ true → list_all p (filter q xs) ≡ true
@@ -95,7 +95,7 @@ module _ {A : Type 0} (f : A → ℤ) where
       ]
 
   -- rows that are left out don't change the order
-  pub rising_kept : (q : A → Bool) (xs : List A) → Rising f xs → Rising f (filter q xs)
+  pub rising_kept : (q : A → Bool) (xs : List A) → IsRisingBy f xs → IsRisingBy f (filter q xs)
   rising_kept q [] r = tt
   rising_kept q (x ∷ xs) r =
       elim (cases_Bool (q x)) [
@@ -107,8 +107,8 @@ module _ {A : Type 0} (f : A → ℤ) where
   not_lt x y = grind (arith, ints)
 
   -- the same, of rows that are given so
-  pub rising_left : (high : ℤ) (xs ys : List A) → Rising f xs → ys ≡ filter (λ x. int_lt (f x) high) xs → Rising f ys
-  rising_left high xs ys r e = subst (Rising f) (sym e) (rising_kept (λ x. int_lt (f x) high) xs r)
+  pub rising_left : (high : ℤ) (xs ys : List A) → IsRisingBy f xs → ys ≡ filter (λ x. int_lt (f x) high) xs → IsRisingBy f ys
+  rising_left high xs ys r e = subst (IsRisingBy f) (sym e) (rising_kept (λ x. int_lt (f x) high) xs r)
 
   -- those from low on of those before high
   pub window_is : (low high : ℤ) (xs : List A)
@@ -142,11 +142,11 @@ module _ {A : Type 0} (number : A → ℕ) where
   lower_no_greater x y m h k = grind (arith, ints)
 
   -- the rows below a number come before the others
-  pub below_first : (m : ℕ) (xs : List A) → Rising (λ x. pos (number x)) xs → IsPartitionedBy (λ x. nat_lt (number x) m) xs
+  pub below_first : (m : ℕ) (xs : List A) → IsRisingBy (λ x. pos (number x)) xs → IsPartitionedBy (λ x. nat_lt (number x) m) xs
   below_first m xs r i j d a w h = lower_below _ _ m (rising_at (λ x. pos (number x)) xs i j d r a w) h
 
   -- and so do those up to a number
-  pub no_greater_first : (m : ℕ) (xs : List A) → Rising (λ x. pos (number x)) xs → IsPartitionedBy (λ x. nat_le (number x) m) xs
+  pub no_greater_first : (m : ℕ) (xs : List A) → IsRisingBy (λ x. pos (number x)) xs → IsPartitionedBy (λ x. nat_le (number x) m) xs
   no_greater_first m xs r i j d a w h = lower_no_greater _ _ m (rising_at (λ x. pos (number x)) xs i j d r a w) h
 
   not_le : (x m : ℕ) → not (nat_le x m) ≡ nat_lt m x

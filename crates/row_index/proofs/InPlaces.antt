@@ -8,7 +8,7 @@ use Rattle.std.proofs.lemmas.Bool.{and_parts}
 use Rattle.tap_rows.specs.declared.rows.Doc.{Doc}
 use Rattle.tap_rows.specs.Arrivals.{Arrived}
 use Rattle.tap_rows.specs.Kept.{Each}
-use Rattle.row_index.specs.Orders.{InPlace, Numbered, Rising, doc_number, doc_arrival}
+use Rattle.row_index.specs.Orders.{InPlace, Numbered, IsRisingBy, doc_number, doc_arrival}
 use Rattle.tap_base.specs.Numbers.{IsMoment}
 
 nat_other : (m n : ℕ) → m < n → nat_eq n m ≡ false
@@ -52,7 +52,7 @@ module _ {A : Type 0} (number : A → ℕ) where
       rw (le_ranks low (number x) e) (no_lower low (n + 1) xs h.1 (omega (arith, w)))
 
   -- the numbers of rows in their places rise
-  pub numbers_rise : (n : ℕ) (xs : List A) → Numbered number n xs → Rising (λ x. pos (number x)) xs
+  pub numbers_rise : (n : ℕ) (xs : List A) → Numbered number n xs → IsRisingBy (λ x. pos (number x)) xs
   numbers_rise n [] h = tt
   numbers_rise n (x ∷ xs) h =
       let e : number x ≡ n = h.0 in
@@ -62,7 +62,7 @@ le_of : (a b : ℤ) → int_le a b ≡ true → a ≤ℤ b
 le_of a b h = grind (arith, ints)
 
 -- documents in their places arrived one after another
-arrived_from : (n : ℕ) (low : ℤ) (docs : List Doc) → Numbered doc_number n docs → Rising doc_arrival docs
+arrived_from : (n : ℕ) (low : ℤ) (docs : List Doc) → Numbered doc_number n docs → IsRisingBy doc_arrival docs
     → Each (λ doc. low ≤ℤ doc.arrival) docs → Arrived n low docs
 arrived_from n low [] h r e = tt
 arrived_from n low (doc ∷ docs) h r e =
@@ -116,11 +116,11 @@ module _ {A : Type 0} where
   number_last number n [] x h = h.0 ∙ omega arith
   number_last number n (y ∷ ys) x h = number_last number (n + 1) ys x h.1 ∙ omega arith
 
-  rising_onto : (f : A → ℤ) (xs : List A) (x : A) → Rising f xs → Each (λ y. f y ≤ℤ f x) xs → Rising f (xs ++ x ∷ [])
+  rising_onto : (f : A → ℤ) (xs : List A) (x : A) → IsRisingBy f xs → Each (λ y. f y ≤ℤ f x) xs → IsRisingBy f (xs ++ x ∷ [])
   rising_onto f [] x r e = (refl, tt)
   rising_onto f (y ∷ ys) x r e = (all_onto (λ z. int_le (f y) (f z)) ys x r.0 (le_true _ _ e.0), rising_onto f ys x r.1 e.1)
 
-  rising_front : (f : A → ℤ) (xs : List A) (x : A) → Rising f (xs ++ x ∷ []) → Rising f xs
+  rising_front : (f : A → ℤ) (xs : List A) (x : A) → IsRisingBy f (xs ++ x ∷ []) → IsRisingBy f xs
   rising_front f [] x r = tt
   rising_front f (y ∷ ys) x r = (all_front (λ z. int_le (f y) (f z)) ys x r.0, rising_front f ys x r.1)
 

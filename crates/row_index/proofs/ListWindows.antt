@@ -9,7 +9,7 @@ use Rattle.tap_base.specs.declared.numbers.DocNum.{DocNum}
 use Rattle.tap_rows.specs.declared.rows.Doc.{Doc}
 use Rattle.tap_rows.specs.Kept.{Each}
 use Rattle.row_index.specs.Walks.{ArePlaces, HasRows, at_places, put_before}
-use Rattle.row_index.specs.Orders.{Rising, InPlace, in_window, doc_number, doc_rank, doc_arrival, doc_num, arrival_of, place_arrival}
+use Rattle.row_index.specs.Orders.{IsRisingBy, InPlace, in_window, doc_number, doc_rank, doc_arrival, doc_num, arrival_of, place_arrival}
 use Rattle.row_index.specs.Posts.{places_of, is_one_of}
 use Rattle.row_index.specs.Texts.{with_text}
 use Rattle.row_index.proofs.Halves.{rising_kept}
@@ -25,7 +25,7 @@ module _ {A B : Type 0} (f : A → ℤ) (g : B → ℤ) (h : A → B) where
       rw (e.0, a.0) (all_mapped low xs e.1 a.1)
 
   -- seconds that never fall, of what represents the rows
-  pub rising_mapped : (xs : List A) → Each (λ x. g (h x) ≡ f x) xs → Rising f xs → Rising g (map h xs)
+  pub rising_mapped : (xs : List A) → Each (λ x. g (h x) ≡ f x) xs → IsRisingBy f xs → IsRisingBy g (map h xs)
   rising_mapped [] e r = tt
   rising_mapped (x ∷ xs) e r = (rw e.0 (all_mapped (f x) xs e.1 r.0), rising_mapped xs e.1 r.1)
 
@@ -58,20 +58,20 @@ own_arrivals all (doc ∷ docs) e = (ap arrival_of e.0, own_arrivals all docs e.
 
 module _ (texts : Doc → List (List ℕ)) (text : List ℕ) (docs : List Doc) (stand : InPlace doc_number doc_arrival docs) where
   -- the documents of a posting list arrived one after another
-  pub listed_arrive : Rising doc_arrival (with_text texts text docs)
+  pub listed_arrive : IsRisingBy doc_arrival (with_text texts text docs)
   listed_arrive = rising_kept doc_arrival (λ doc. is_one_of bytes_eq text (texts doc)) docs stand.rising
 
   -- and their numbers rise
-  pub listed_numbers : Rising doc_rank (with_text texts text docs)
+  pub listed_numbers : IsRisingBy doc_rank (with_text texts text docs)
   listed_numbers = rising_kept doc_rank (λ doc. is_one_of bytes_eq text (texts doc)) docs (numbers_rise doc_number 1 docs stand.numbered)
 
   pub own_listed : Each (IsOwn docs) (with_text texts text docs)
   own_listed = each_kept (IsOwn docs) (λ doc. is_one_of bytes_eq text (texts doc)) docs (all_own doc_number docs stand.numbered)
 
   -- the documents of a posting list never fall in arrival
-  pub listed_rise : (places : List ℕ) → places ≡ places_of doc_number (with_text texts text docs) → Rising (place_arrival docs) places
+  pub listed_rise : (places : List ℕ) → places ≡ places_of doc_number (with_text texts text docs) → IsRisingBy (place_arrival docs) places
   listed_rise places e =
-      subst (Rising (place_arrival docs)) (sym e) (rising_mapped doc_arrival (place_arrival docs) (λ doc. doc_number doc - 1)
+      subst (IsRisingBy (place_arrival docs)) (sym e) (rising_mapped doc_arrival (place_arrival docs) (λ doc. doc_number doc - 1)
       (with_text texts text docs) (own_arrivals docs (with_text texts text docs) own_listed) listed_arrive)
 
   -- the places of a posting list pick its documents
@@ -124,14 +124,14 @@ module _ (docs : List Doc) where
         (all_placed low ps w) k
 
     rising_first : (o : Option Doc) (ps : List ℕ) → HasRows docs ps → length (put_before o (at_places docs ps)) ≡ suc (length ps)
-        → Rising f (put_before o (at_places docs ps))
-        → (list_all (λ place. int_le (g o) (g (slice_get docs place))) ps ≡ true) × Rising f (at_places docs ps)
+        → IsRisingBy f (put_before o (at_places docs ps))
+        → (list_all (λ place. int_le (g o) (g (slice_get docs place))) ps ≡ true) × IsRisingBy f (at_places docs ps)
     rising_first None ps w h r = absurd (omega (arith, h))
     rising_first (Some doc) ps w h r = (rw (is doc) (all_placed (f doc) ps w r.0), r.1)
 
     -- they rise as the documents do
-    pub rising_placed : (places : List ℕ) → HasRows docs places → Rising f (at_places docs places)
-        → Rising (λ place. g (slice_get docs place)) places
+    pub rising_placed : (places : List ℕ) → HasRows docs places → IsRisingBy f (at_places docs places)
+        → IsRisingBy (λ place. g (slice_get docs place)) places
     rising_placed [] h r = tt
     rising_placed (p ∷ ps) h r =
         let w = full_rest (slice_get docs p) (at_places docs ps) (length ps) h in

@@ -10,15 +10,15 @@ use Rattle.tap_base.specs.Numbers.{IsMoment}
 
 module _ {A : Type 0} (f : A → ℤ) where
   -- f never falls
-  abbrev pub Rising : List A → Type 0
-  Rising [] = Unit {0}
-  Rising (x ∷ xs) = (list_all (λ y. int_le (f x) (f y)) xs ≡ true) × Rising xs
+  abbrev pub IsRisingBy : List A → Type 0
+  IsRisingBy [] = Unit {0}
+  IsRisingBy (x ∷ xs) = (list_all (λ y. int_le (f x) (f y)) xs ≡ true) × IsRisingBy xs
 
-  -- the rows whose second is from low up to, and without, high; up_to: those up to, and with, `last`
+  -- the rows whose second is from low up to, and without, high
   abbrev pub in_window : ℤ → ℤ → List A → List A
   in_window low high xs = filter (λ x. int_le low (f x) && int_lt (f x) high) xs
 
-  -- those up to, and with, last
+  -- the rows whose second is up to, and with, `last`
   abbrev pub up_to : ℤ → List A → List A
   up_to last xs = filter (λ x. int_le (f x) last) xs
 
@@ -31,7 +31,7 @@ Numbered number n (x ∷ xs) = (number x ≡ n) × Numbered number (n + 1) xs
 -- number of 32 bits counts them
 pub record InPlace {A : Type 0} (number : A → ℕ) (arrival : A → ℤ) (rows : List A) : Type 0 where
   pub numbered : Numbered number 1 rows
-  pub rising : Rising arrival rows
+  pub rising : IsRisingBy arrival rows
   pub moments : Each (λ row. IsMoment (arrival row)) rows
   pub room : length rows < 2 ^ 32
 

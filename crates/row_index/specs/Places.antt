@@ -37,5 +37,5 @@ module _ {K : Type 0} (eq : K → K → Bool) where
   unposted key place (e ∷ es) = if eq key e.0 then (e.0, without_place place e.1) ∷ es else e ∷ unposted key place es
 
   -- has the key been used?
-  abbrev pub has_key : K → List (K × List ℕ) → Bool
-  has_key key es = list_any (λ e. eq key e.0) es
+  abbrev pub is_used_key : K → List (K × List ℕ) → Bool
+  is_used_key key es = list_any (λ e. eq key e.0) es

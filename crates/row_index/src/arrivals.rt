@@ -1,7 +1,7 @@
 //! The rows of some seconds, found by halving: arrivals never fall.
 
 ghost use Rattle.std.specs.Prelude.{◌≡◌, not, int_lt, filter};
-ghost use Rattle.row_index.specs.Orders.{Rising, doc_arrival, note_arrival, place_arrival};
+ghost use Rattle.row_index.specs.Orders.{IsRisingBy, doc_arrival, note_arrival, place_arrival};
 ghost use Rattle.row_index.specs.Orders.{in_window, up_to};
 
 use crate::from_end::partition_point_from_end;
@@ -9,7 +9,7 @@ use tap_rows::{KeptDoc, Note};
 
 // Returns the documents that arrived before the moment.
 fn docs_before(docs: &[KeptDoc], moment: i64) -> &[KeptDoc]
-    requires { Rising doc_arrival docs.now }
+    requires { IsRisingBy doc_arrival docs.now }
     ensures { result.now ≡ filter (λ doc. int_lt doc.arrival moment) docs.now }
 {
     &docs[..partition_point_from_end(docs, |doc| doc.doc().arrival < moment)]
@@ -17,7 +17,7 @@ fn docs_before(docs: &[KeptDoc], moment: i64) -> &[KeptDoc]
 
 // Returns the documents that arrived at the moment or later.
 fn docs_from(docs: &[KeptDoc], moment: i64) -> &[KeptDoc]
-    requires { Rising doc_arrival docs.now }
+    requires { IsRisingBy doc_arrival docs.now }
     ensures { result.now ≡ filter (λ doc. not (int_lt doc.arrival moment)) docs.now }
 {
     &docs[partition_point_from_end(docs, |doc| doc.doc().arrival < moment)..]
@@ -25,7 +25,7 @@ fn docs_from(docs: &[KeptDoc], moment: i64) -> &[KeptDoc]
 
 // Returns the documents that arrived from `low` up to but not at `high`.
 pub(crate) fn docs_within(docs: &[KeptDoc], low: i64, high: i64) -> &[KeptDoc]
-    requires { Rising doc_arrival docs.now }
+    requires { IsRisingBy doc_arrival docs.now }
     ensures { result.now ≡ in_window doc_arrival low high docs.now }
 {
     docs_from(docs_before(docs, high), low)
@@ -33,7 +33,7 @@ pub(crate) fn docs_within(docs: &[KeptDoc], low: i64, high: i64) -> &[KeptDoc]
 
 // Returns the documents that arrived up to `last`.
 pub(crate) fn docs_up_to(docs: &[KeptDoc], last: i64) -> &[KeptDoc]
-    requires { Rising doc_arrival docs.now }
+    requires { IsRisingBy doc_arrival docs.now }
     ensures { result.now ≡ up_to doc_arrival last docs.now }
 {
     &docs[..partition_point_from_end(docs, |doc| doc.doc().arrival <= last)]
@@ -41,7 +41,7 @@ pub(crate) fn docs_up_to(docs: &[KeptDoc], last: i64) -> &[KeptDoc]
 
 // Returns the notes that arrived before the moment.
 fn notes_before(notes: &[Note], moment: i64) -> &[Note]
-    requires { Rising note_arrival notes.now }
+    requires { IsRisingBy note_arrival notes.now }
     ensures { result.now ≡ filter (λ note. int_lt note.arrival moment) notes.now }
 {
     &notes[..partition_point_from_end(notes, |note| note.arrival < moment)]
@@ -49,7 +49,7 @@ fn notes_before(notes: &[Note], moment: i64) -> &[Note]
 
 // Returns the notes that arrived at the moment or later.
 fn notes_from(notes: &[Note], moment: i64) -> &[Note]
-    requires { Rising note_arrival notes.now }
+    requires { IsRisingBy note_arrival notes.now }
     ensures { result.now ≡ filter (λ note. not (int_lt note.arrival moment)) notes.now }
 {
     &notes[partition_point_from_end(notes, |note| note.arrival < moment)..]
@@ -57,7 +57,7 @@ fn notes_from(notes: &[Note], moment: i64) -> &[Note]
 
 // Returns the notes that arrived from `low` up to but not at `high`.
 pub(crate) fn notes_within(notes: &[Note], low: i64, high: i64) -> &[Note]
-    requires { Rising note_arrival notes.now }
+    requires { IsRisingBy note_arrival notes.now }
     ensures { result.now ≡ in_window note_arrival low high notes.now }
 {
     notes_from(notes_before(notes, high), low)
@@ -65,7 +65,7 @@ pub(crate) fn notes_within(notes: &[Note], low: i64, high: i64) -> &[Note]
 
 // Returns the notes that arrived up to `last`.
 pub(crate) fn notes_up_to(notes: &[Note], last: i64) -> &[Note]
-    requires { Rising note_arrival notes.now }
+    requires { IsRisingBy note_arrival notes.now }
     ensures { result.now ≡ up_to note_arrival last notes.now }
 {
     &notes[..partition_point_from_end(notes, |note| note.arrival <= last)]
@@ -83,7 +83,7 @@ fn arrival_at(docs: &[KeptDoc], place: u32) -> i64
 
 // Returns the places of documents that arrived before the moment.
 fn places_before<'a>(docs: &[KeptDoc], places: &'a [u32], moment: i64) -> &'a [u32]
-    requires { Rising (place_arrival docs.now) places.now }
+    requires { IsRisingBy (place_arrival docs.now) places.now }
     ensures { result.now
         ≡ filter (λ place. int_lt (place_arrival docs.now place) moment) places.now }
 {
@@ -92,7 +92,7 @@ fn places_before<'a>(docs: &[KeptDoc], places: &'a [u32], moment: i64) -> &'a [u
 
 // Returns the places of documents that arrived at the moment or later.
 fn places_from<'a>(docs: &[KeptDoc], places: &'a [u32], moment: i64) -> &'a [u32]
-    requires { Rising (place_arrival docs.now) places.now }
+    requires { IsRisingBy (place_arrival docs.now) places.now }
     ensures { result.now
         ≡ filter (λ place. not (int_lt (place_arrival docs.now place) moment)) places.now }
 {
@@ -106,7 +106,7 @@ pub(crate) fn places_within<'a>(
     low: i64,
     high: i64,
 ) -> &'a [u32]
-    requires { Rising (place_arrival docs.now) places.now }
+    requires { IsRisingBy (place_arrival docs.now) places.now }
     ensures { result.now ≡ in_window (place_arrival docs.now) low high places.now }
 {
     places_from(docs, places_before(docs, places, high), low)
@@ -114,7 +114,7 @@ pub(crate) fn places_within<'a>(
 
 // Returns the places of documents that arrived up to `last`.
 pub(crate) fn places_up_to<'a>(docs: &[KeptDoc], places: &'a [u32], last: i64) -> &'a [u32]
-    requires { Rising (place_arrival docs.now) places.now }
+    requires { IsRisingBy (place_arrival docs.now) places.now }
     ensures { result.now ≡ up_to (place_arrival docs.now) last places.now }
 {
     &places[..partition_point_from_end(places, |place| arrival_at(docs, *place) <= last)]

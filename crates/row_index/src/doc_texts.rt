@@ -27,7 +27,7 @@ pub(crate) struct DocTexts {
 }
 
 // Returns the fields of a document.
-#[tactic(auto, unfolding(crate::specs::Texts::fields))]
+#[tactic(auto, unfolding(tap_rows::specs::Fields::fields))]
 pub(crate) fn fields_in(doc: &KeptDoc) -> &Fields
     ensures { result.now ≡ fields doc.now }
 {

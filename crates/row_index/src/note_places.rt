@@ -1,7 +1,7 @@
 //! The places of notes by their document.
 
 ghost use Rattle.std.specs.Prelude.{◌≡◌, [], nat_eq, false, OnOk, OnErr};
-ghost use Rattle.row_index.specs.Places.{under, posted, unposted, has_key};
+ghost use Rattle.row_index.specs.Places.{under, posted, unposted, is_used_key};
 
 use crate::places::{drop_place, put_place};
 use indexmap::IndexMap;
@@ -47,7 +47,7 @@ impl NotePlaces {
 
     // Puts the first place under a number.
     fn begin(&mut self, key: u32, place: u32) -> Result<(), Memory>
-        requires { has_key nat_eq key self.old ≡ false }
+        requires { is_used_key nat_eq key self.old ≡ false }
         ensures ok { OnOk result (self.new ≡ posted nat_eq key place self.old) }
         ensures err { OnErr result (self.new ≡ self.old) }
     {

@@ -2,7 +2,7 @@
 
 ghost use Rattle.std.specs.Prelude.{◌≡◌, length, drop, slice_get};
 ghost use Rattle.row_index.specs.Walks.{ArePlaces, at_places};
-ghost use Rattle.row_index.specs.Orders.{Rising, doc_arrival, doc_rank, doc_num, up_to};
+ghost use Rattle.row_index.specs.Orders.{IsRisingBy, doc_arrival, doc_rank, doc_num, up_to};
 ghost use Rattle.row_index.specs.Orders.{above_number, below_number};
 
 use crate::arrivals::places_up_to;
@@ -82,7 +82,7 @@ impl<'a> PostingList<'a> {
 
     /// Returns the documents that arrived up to `last`, by halving.
     pub fn arrived_to(self, last: i64) -> PostingList<'a>
-        requires { Rising doc_arrival self }
+        requires { IsRisingBy doc_arrival self }
         ensures { result ≡ up_to doc_arrival last self.entry }
     {
         PostingList {
@@ -93,7 +93,7 @@ impl<'a> PostingList<'a> {
 
     /// Returns the documents whose number is greater, by halving.
     pub fn above(self, num: DocNum) -> PostingList<'a>
-        requires { Rising doc_rank self }
+        requires { IsRisingBy doc_rank self }
         ensures { result ≡ above_number num.0 self.entry }
     {
         PostingList {
@@ -104,7 +104,7 @@ impl<'a> PostingList<'a> {
 
     /// Returns the documents whose number is less, by halving.
     pub fn below(self, num: DocNum) -> PostingList<'a>
-        requires { Rising doc_rank self }
+        requires { IsRisingBy doc_rank self }
         ensures { result ≡ below_number num.0 self.entry }
     {
         PostingList {

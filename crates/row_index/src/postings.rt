@@ -3,7 +3,7 @@
 ghost use Rattle.std.specs.Prelude.{◌≡◌, [], false, option_to_list, OnOk, OnErr};
 ghost use Rattle.std.specs.Str.{bytes_eq};
 ghost use Rattle.row_index.specs.Posts.{posted_all, unposted_all, IsPartlyPosted};
-ghost use Rattle.row_index.specs.Places.{under, posted, unposted, has_key};
+ghost use Rattle.row_index.specs.Places.{under, posted, unposted, is_used_key};
 
 use crate::places::{drop_place, put_place};
 use indexmap::IndexMap;
@@ -49,7 +49,7 @@ impl Postings {
 
     // Puts the first place under a text.
     fn begin(&mut self, key: &[u8], place: u32) -> Result<(), Memory>
-        requires { has_key bytes_eq key.now self.old ≡ false }
+        requires { is_used_key bytes_eq key.now self.old ≡ false }
         ensures ok { OnOk result (self.new ≡ posted bytes_eq key.now place self.old) }
         ensures err { OnErr result (self.new ≡ self.old) }
     {

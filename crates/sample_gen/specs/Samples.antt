@@ -11,13 +11,12 @@ use Rattle.script_lang.specs.declared.command.Command.TheVariants.{At, AsUser, M
 abbrev pub next_state : ℕ → ℕ
 next_state x = (x * 1103515245 + 12345) % 2147483648
 
--- the number of a linear congruential generator from 1 after i steps; draw: what is drawn for message i: the generator's number
--- after i steps, without its lower 16 bits
+-- the number of a linear congruential generator from 1 after i steps
 abbrev pub generator_after : ℕ → ℕ
 generator_after zero = 1
 generator_after (suc i) = next_state (generator_after i)
 
--- what is drawn for message i: the number without its lower 16 bits
+-- what is drawn for message i: the generator's number after i steps, without its lower 16 bits
 abbrev pub draw : ℕ → ℕ
 draw i = generator_after i / 65536
 

@@ -68,7 +68,7 @@ fn push_parent(alloc: Global, into: &mut Text, i: u32, drawn: u32) -> Result<(),
 }
 
 /// Returns the text of message `i`, for which `drawn` is drawn. `Memory` means out of memory.
-#[tactic(auto, unfolding(crate::specs::Samples::message_text))]
+#[tactic(auto, unfolding(crate::specs::Samples::sample_message))]
 pub fn sample_message(alloc: Global, i: u32, drawn: u32) -> Result<Text, Memory>
     ensures { IfOk result (λ text. text ≡ sample_message i drawn) }
 {

@@ -13,7 +13,6 @@ use Rattle.tap_rows.specs.declared.rows.Note.{Note}
 use Rattle.tap_rows.specs.declared.change.Change.TheVariants.{Docs, OneNote}
 use Rattle.tap_rows.specs.Tables.{after}
 use Rattle.row_index.specs.Orders.{doc_arrival, note_arrival}
-use Rattle.row_index.specs.Orders as Index
 use Rattle.query_eval.specs.Hits.{HitsWithRoom}
 use Rattle.vote_scores.specs.Tally.{Vote}
 use Rattle.tap_rows.specs.Kept.{Each}
@@ -256,10 +255,6 @@ moment_or_zero-moment e ready there = go e.session.moment refl where
   go : (o : Option ℤ) → e.session.moment ≡ o → IsMoment (moment_or_zero e.session)
   go None none = absurd (there none)
   go (Some m) is = subst IsMoment (sym (ap or_zero is)) (subst IsTime is ready.moment)
-
--- the present moment, as the index takes it
-pub index-moment : (e : Engine) → IsReady e → (e.session.moment ≡ None → ⊥) → Index.IsMoment (moment_or_zero e.session)
-index-moment e ready there = let moment = moment_or_zero-moment e ready there in (moment.0, moment.1)
 
 -- an engine that is unchanged but for its hits stays ready
 pub ready-still : (e e' : Engine) → IsReady e → IsUnchangedButHits e' e → IsReady e'

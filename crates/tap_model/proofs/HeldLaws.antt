@@ -1,4 +1,4 @@
--- What is kept of the tables, and the session's moment: if asked, that a query's deliveries are its box. Each command keeps it.
+-- What every command preserves: no row is after the session's moment, and if asked, each query's deliveries are its box.
 use Rattle.std.proofs.Common.{◌≡◌, ◌∙◌, sym, ap, refl, subst, arith, ℕ, suc, ◌+◌, ℤ, pos, List, [], ◌∷◌, ◌++◌, length, map, Bool, true}
 use Rattle.std.proofs.Common.{false, Option, Some, None, if◌then◌else◌}
 use Rattle.std.specs.Prelude.{◌≤ℤ◌, int_le}
@@ -37,12 +37,12 @@ use Rattle.tap_model.specs.Sound.{IsNow}
 use Rattle.tap_model.proofs.AnswerLaws.{truth-of-second, find-in, second-none}
 use Rattle.tap_base.specs.Numbers.{IsMoment}
 
--- the tables are kept, if that is asked, and no row is of a time after the session's moment
+-- the tables are `IsKept`, if that is asked, and no row is of a time after the session's moment
 pub record Held (Asked : Type 0) (tables : Tables) (session : Session) : Type 0 where
   pub kept : Asked → IsKept query_truth start_of tables
   pub now : IsNow session.moment tables
 
--- what an answer leaves is held
+-- what an answer leaves is `Held`
 abbrev Leaves : Type 0 → Tables → Answer → Type 0
 Leaves Asked tables answer = Held Asked (tables_after answer.change tables) answer.session
 

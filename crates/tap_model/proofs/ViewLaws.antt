@@ -79,7 +79,7 @@ pub brief-same : (user : List ℕ) (s s' : Session) (t t' : Tables) → view_of 
     → brief_of user s t ≡ brief_of user s' t'
 brief-same user s s' t t' same = sym (brief-is user s t) ∙ ap seen_brief same ∙ brief-is user s' t'
 
--- a row and tables that stand for a core, and for documents and notes
+-- a row and tables by which laws over them are read as laws over a core, or over documents and notes
 abbrev row_of : Core → QueryRow
 row_of core = record { num = record { 0 = 0 }; owner = []; name = core.name; source = core.source; arrival = core.arrival }
 

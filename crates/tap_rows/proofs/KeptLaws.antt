@@ -88,7 +88,7 @@ module _ (truth : QueryRow → Truth) (start : QueryRow → ℤ) (causal : (quer
     queries-later t tables later queries runs picks grown by starts.1 each.1,
   )
 
-  -- the empty tables are kept
+  -- the empty tables are `IsKept`
   pub kept-empty : IsKept truth start no_rows
   kept-empty = record { docs = tt; queries = tt; runs = tt; owned = tt; picks = tt; each = tt }
 

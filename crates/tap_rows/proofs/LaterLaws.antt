@@ -1,4 +1,4 @@
--- Rows that arrive later leave every first second as it was, for every condition.
+-- Rows that arrive later change no first second, for every condition.
 use Rattle.std.proofs.Common.{◌≡◌, ◌∙◌, sym, ap, refl, arith, ℤ, Bool, false, Option, None, List, [], ◌∷◌, ◌++◌, inl, inr}
 use Rattle.std.specs.Prelude.{◌&&◌, ◌≤ℤ◌, ◌<ℤ◌, int_le, filter}
 use Rattle.std.specs.List.{filter_map}

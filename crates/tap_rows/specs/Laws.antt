@@ -23,13 +23,13 @@ pub record LaterRowsKeepFirstSeconds : Type 0 where
       (truth : Truth) (tables : Tables) (doc : Doc) (start until : ℤ)
       → until ≤ℤ doc.arrival → first_second truth tables doc start until ≡ None
 
--- whatever the queries' truths and starts: if the tables are kept and no row is after the moment t, this follows
+-- whatever the queries' truths and starts: if the tables are `IsKept` and no row is after the moment t, this follows
 abbrev pub IfKept : ((QueryRow → Truth) → (QueryRow → ℤ) → ℤ → Tables → Type 0) → Type 0
 IfKept follows =
     (truth : QueryRow → Truth) (start : QueryRow → ℤ) (causal : (query : QueryRow) → IsOfTheSecond (truth query)) (t : ℤ) (tables : Tables)
     → IsKept truth start tables → IsBy start t tables → follows truth start t tables
 
--- the empty tables are kept, and each change keeps them so: later documents, a later note, a new query, a filter, and a run
+-- the empty tables are `IsKept`, and each change preserves that: later documents, a later note, a new query, a filter, and a run
 -- of a query with a pick for each document that is fresh since its last run
 pub record DeliveriesStayTheBox : Type 0 where
   pub none : (truth : QueryRow → Truth) (start : QueryRow → ℤ) → IsKept truth start no_rows

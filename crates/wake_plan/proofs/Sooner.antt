@@ -16,9 +16,8 @@ use Rattle.tql_core.specs.declared.term.Base.TheVariants as B
 use Rattle.tql_core.specs.Row.{Row, OfDoc, OfNote, arrival, date}
 use Rattle.tql_core.specs.declared.atom.Atom.{Atom}
 use Rattle.tql_core.specs.Values.{Env, bind, lookup, on_row, round_up_to_day, day_of, plus_to, base_value, value, true_atom}
-use Rattle.row_index.specs.Orders.{Rising, in_window, doc_arrival, note_arrival}
+use Rattle.row_index.specs.Orders.{IsRisingBy, in_window, doc_arrival, note_arrival}
 use Rattle.row_index.specs.Dates.{has_date, stored_date, is_earlier, put_dated, in_date_order, dated_in}
-use Rattle.row_index.specs.Texts as texts
 use Rattle.time_marks.specs.declared.window.Window.{Window}
 use Rattle.time_marks.specs.Probes.{Probe}
 use Rattle.time_marks.specs.declared.seek.Seek.{Seek}
@@ -149,7 +148,7 @@ module _ {A : Type 0} (f : A → ℤ) where
   le_true : (x y : ℤ) → int_le x y ≡ true → x ≤ℤ y
   le_true x y h = grind (arith, ints)
 
-  rising_ordered : (xs : List A) → Rising f xs → Ordered xs
+  rising_ordered : (xs : List A) → IsRisingBy f xs → Ordered xs
   rising_ordered [] h = tt
   rising_ordered (x ∷ xs) h = ((λ y i. le_true (f x) (f y) (all_in (λ y. int_le (f x) (f y)) xs y h.0 i)), rising_ordered xs h.1)
 
@@ -208,10 +207,10 @@ fold_ordered acc [] h = h
 fold_ordered acc (d ∷ ds) h = fold_ordered (put_dated d acc) ds (put_ordered d acc h)
 
 sooner_date : (x y : Doc) → stored_date x ≤ℤ stored_date y → IsSoonerDate (date (OfDoc x)) (date (OfDoc y))
-unfolding fields texts.fields
+unfolding fields
 sooner_date x y h a b ea eb = subst (λ z. a ≤ℤ unwrap_or z (pos 0)) eb (subst (λ z. unwrap_or z (pos 0) ≤ℤ stored_date y) ea h)
 
-module _ (T : Tables) (W : Window) (docs : Rising doc_arrival T.docs) (notes : Rising note_arrival T.notes) where
+module _ (T : Tables) (W : Window) (docs : IsRisingBy doc_arrival T.docs) (notes : IsRisingBy note_arrival T.notes) where
   by_arrival : (base : Base) → ((r s : Row) → arrival r ≤ℤ arrival s → IsSooner base r s) → (t : Table)
       → AreSooner base (arrived_rows t W T)
   by_arrival base f Docs = ordered_sooner doc_arrival base OfDoc (λ x y h. f (OfDoc x) (OfDoc y) h)

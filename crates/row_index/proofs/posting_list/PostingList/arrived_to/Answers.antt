@@ -1,6 +1,6 @@
 use Rattle.std.proofs.Common.{rules, ◌≡◌, int_le, refl, sym, subst, ap, ◌∙◌}
 use Rattle.row_index.specs.Walks.{HasRows, at_places}
-use Rattle.row_index.specs.Orders.{Rising, doc_arrival, arrival_of, place_arrival, up_to}
+use Rattle.row_index.specs.Orders.{IsRisingBy, doc_arrival, arrival_of, place_arrival, up_to}
 use Rattle.row_index.proofs.PlaceLists.{kept_have_rows}
 use Rattle.row_index.proofs.ListWindows.{rising_placed, kept_picked}
 use Rattle.row_index.proofs.posting_list.PostingList.arrived_to.Goals as goal
@@ -8,7 +8,7 @@ use Rattle.row_index.proofs.posting_list.PostingList.arrived_to.Goals as goal
 pub places_up_to-requires : goal.places_up_to-requires
 places_up_to-requires c =
     rising_placed c.self.inside.docs.now doc_arrival arrival_of (λ doc. refl)
-    c.self.inside.places.now c.self.invariant.rows (subst (Rising doc_arrival) (sym c.self.view_is) c.requires)
+    c.self.inside.places.now c.self.invariant.rows (subst (IsRisingBy doc_arrival) (sym c.self.view_is) c.requires)
 
 pub invariant_of-result : goal.invariant_of-result
 invariant_of-result c =

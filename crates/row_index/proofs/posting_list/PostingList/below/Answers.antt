@@ -1,7 +1,7 @@
 use Rattle.std.proofs.Common.{rules, ◌≡◌, pos, filter, refl, sym, subst, ap, ◌∙◌}
 use Rattle.std.specs.Prelude.{nat_lt}
 use Rattle.row_index.specs.Walks.{HasRows, at_places}
-use Rattle.row_index.specs.Orders.{Rising, doc_rank, number_or_zero, place_number, below_number}
+use Rattle.row_index.specs.Orders.{IsRisingBy, doc_rank, number_or_zero, place_number, below_number}
 use Rattle.row_index.proofs.PlaceLists.{kept_have_rows}
 use Rattle.row_index.proofs.ListWindows.{rising_placed, kept_picked}
 use Rattle.row_index.proofs.posting_list.PostingList.below.Goals as goal
@@ -9,7 +9,7 @@ use Rattle.row_index.proofs.posting_list.PostingList.below.Goals as goal
 pub places_below-requires : goal.places_below-requires
 places_below-requires c =
     rising_placed c.self.inside.docs.now doc_rank (λ o. pos (number_or_zero o)) (λ doc. refl)
-    c.self.inside.places.now c.self.invariant.rows (subst (Rising doc_rank) (sym c.self.view_is) c.requires)
+    c.self.inside.places.now c.self.invariant.rows (subst (IsRisingBy doc_rank) (sym c.self.view_is) c.requires)
 
 pub invariant_of-result : goal.invariant_of-result
 invariant_of-result c =

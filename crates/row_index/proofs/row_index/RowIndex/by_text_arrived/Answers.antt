@@ -1,6 +1,6 @@
 use Rattle.std.proofs.Common.{rules, ◌≡◌, ap, ◌∙◌}
 use Rattle.tap_rows.specs.declared.tables.Tables.{Tables}
-use Rattle.row_index.specs.Orders.{Rising, in_window, doc_arrival, place_arrival}
+use Rattle.row_index.specs.Orders.{IsRisingBy, in_window, doc_arrival, place_arrival}
 use Rattle.row_index.specs.Texts.{with_text, texts_of}
 use Rattle.row_index.specs.Walks.{HasRows, at_places}
 use Rattle.row_index.proofs.ListWindows.{listed_rise, window_picked, window_has_rows}
@@ -9,7 +9,7 @@ use Rattle.row_index.proofs.row_index.RowIndex.by_text_arrived.Goals as goal
 pub places_within-requires : goal.places_within-requires
 places_within-requires c =
     let docs = c.self.inside.docs.items in
-    let rise : Rising (place_arrival docs) c.under-places.result.now = listed_rise (texts_of c.args.kind) c.args.text.now docs
+    let rise : IsRisingBy (place_arrival docs) c.under-places.result.now = listed_rise (texts_of c.args.kind) c.args.text.now docs
     c.self.invariant.docs_stand c.under-places.result.now (c.under-places.ensures docs c.self.invariant.docs_found.texts) in
     search (rules, rise)
 

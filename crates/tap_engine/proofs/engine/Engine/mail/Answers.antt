@@ -7,7 +7,7 @@ use Rattle.tap_rows.specs.Kept.{Each}
 use Rattle.tap_rows.specs.Tables.{after}
 use Rattle.row_index.specs.Orders.{doc_arrival}
 use Rattle.tap_engine.specs.Ready.{IsReady}
-use Rattle.tap_engine.proofs.ReadyLaws.{ready-docs, rows-by, index-moment, some-moment}
+use Rattle.tap_engine.proofs.ReadyLaws.{ready-docs, rows-by, moment_or_zero-moment, some-moment}
 use Rattle.tap_engine.proofs.engine.Engine.mail.Goals as goal
 use Rattle.tap_base.specs.Numbers.{IsMoment}
 
@@ -43,7 +43,7 @@ add_doc-requires-clause-arrives c =
     let at : c.in-Some.moment ≡ moment_or_zero c.args.self.now.session = search rules in
     let some = some-moment c.args.self.now.session.moment c.in-Some.moment there in
     record {
-      moment = subst IsMoment (sym (same ∙ at)) (index-moment c.args.self.now c.requires.ready some);
+      moment = subst IsMoment (sym (same ∙ at)) (moment_or_zero-moment c.args.self.now c.requires.ready some);
       after = subst (λ m. Each (λ other. other.arrival ≤ℤ m) c.args.self.now.index.docs) (sym (same ∙ at))
           (rows-by doc_arrival c.args.self.now c.args.self.now.index.docs c.requires.ready.docs some);
     }

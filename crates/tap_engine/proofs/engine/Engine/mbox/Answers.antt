@@ -13,7 +13,7 @@ use Rattle.tap_engine.specs.Ready.{IsReady}
 use Rattle.tap_engine.proofs.AddedRows.{docs-are}
 use Rattle.tap_engine.proofs.UndoLaws.{undo-docs, some-undo}
 use Rattle.tap_engine.proofs.MemoryRefusals.{mbox-memory}
-use Rattle.tap_engine.proofs.ReadyLaws.{ready-docs, rows-by, index-moment}
+use Rattle.tap_engine.proofs.ReadyLaws.{ready-docs, rows-by, moment_or_zero-moment}
 use Rattle.tap_engine.proofs.MboxLaws.{mbox-verdict, mbox-refuses, mbox-moment, answers-mbox, represents-more}
 use Rattle.tap_engine.proofs.engine.Engine.mbox.Goals as goal
 use Rattle.tap_base.specs.Numbers.{IsMoment}
@@ -97,7 +97,7 @@ add_docs-requires-clause-arrives c =
     let same : to_z w64 (of_z w64 c.in_ok-moment.moment) ≡ c.in_ok-moment.moment = search rules in
     let at = mbox-moment c.args.self.now c.args.block c.in_ok-moment.ensures.checks in
     record {
-      moment = subst IsMoment (sym (same ∙ c.in_ok-moment.ensures.moment)) (index-moment c.args.self.now c.requires.ready at);
+      moment = subst IsMoment (sym (same ∙ c.in_ok-moment.ensures.moment)) (moment_or_zero-moment c.args.self.now c.requires.ready at);
       after = subst (λ m. Each (λ other. other.arrival ≤ℤ m) c.args.self.now.index.docs) (sym (same ∙ c.in_ok-moment.ensures.moment))
           (rows-by doc_arrival c.args.self.now c.args.self.now.index.docs c.requires.ready.docs at);
     }

@@ -9,7 +9,7 @@ use Rattle.vote_scores.specs.Tally.{CanUndoVote, without_vote, with_vote}
 use Rattle.tap_engine.specs.declared.engine.Engine.{Engine}
 use Rattle.tap_engine.proofs.AddedRows.{notes-are}
 use Rattle.tap_engine.proofs.UndoLaws.{for-memory, undo-note}
-use Rattle.tap_engine.proofs.ReadyLaws.{ready-note, rows-by, index-moment}
+use Rattle.tap_engine.proofs.ReadyLaws.{ready-note, rows-by, moment_or_zero-moment}
 use Rattle.tap_engine.proofs.NoteLaws.{note-verdict, note-refuses, note-moment, answers-note, represents-note}
 use Rattle.tap_engine.proofs.engine.Engine.note.Goals as goal
 use Rattle.tap_base.specs.Numbers.{IsMoment}
@@ -68,7 +68,8 @@ pub add_note-requires-clause-arrives : goal.add_note-requires-clause-arrives
 add_note-requires-clause-arrives c =
     let at = note-moment c.args.self.now c.args.doc c.args.kind c.args.text c.in_ok-note.ensures.checks in
     record {
-      moment = subst IsMoment (sym (ap (λ n. n.arrival) c.in_ok-note.ensures.row)) (index-moment c.args.self.now c.requires.ready at);
+      moment =
+          subst IsMoment (sym (ap (λ n. n.arrival) c.in_ok-note.ensures.row)) (moment_or_zero-moment c.args.self.now c.requires.ready at);
       after =
           subst (λ m. Each (λ other. other.arrival ≤ℤ m) c.args.self.now.index.notes) (sym (ap (λ n. n.arrival) c.in_ok-note.ensures.row))
           (rows-by note_arrival c.args.self.now c.args.self.now.index.notes c.requires.ready.notes at);
