@@ -318,9 +318,9 @@ def citations() -> Iterator[Place]:
 def unused(uses: plan.Uses, texts: Callable[[str], Iterable[str]]) -> Dict[str, List[str]]:
     """Returns for each crate the crates of its line that neither its files name nor those of a crate that it does use.
 
-    The contracts of a library speak in the words of libraries below it, and so do the goals of those that call it: a crate's
-    check loads these, whether its own files name them or not. What libraries of the kit stand on isn't known here, so these
-    are left out.
+    The contracts of a library speak in the words of libraries below it, so a crate's check may load one that its own files
+    don't name. Not every such library is loaded: `rt ci` says which (`statements NAME: modules loaded=0`), and this doesn't.
+    Libraries of the kit are left out, since what they stand on isn't known here.
     """
     named = {}  # type: Dict[str, Set[str]]
     for crate in uses:
@@ -351,7 +351,7 @@ def idle_libraries() -> Iterator[Place]:
     text = read("crates.txt")
     lines = {line.partition(":")[0].split()[0]: at for at, line in enumerate(text.split("\n"), 1) if ":" in line}
     for crate, rest in unused(plan.read_uses(text), texts_of).items():
-        yield Place("crates.txt", lines[crate], f"{crate} doesn't use {' '.join(rest)}")
+        yield Place("crates.txt", lines[crate], f"{crate} reaches no name of {' '.join(rest)}")
 
 
 def made_pages() -> Iterator[Place]:
@@ -370,7 +370,7 @@ COUNTS = {
     "old": ("words that are no longer written", old_words),
     "citations": ("names and files that are cited and don't exist", citations),
     "made": ("made pages that are out of date", made_pages),
-    "libraries": ("crates with libraries in crates.txt that they don't use", idle_libraries),
+    "libraries": ("crates with libraries in crates.txt that nothing they use names", idle_libraries),
 }  # type: Dict[str, Tuple[str, Callable[[], Iterator[Place]]]]
 
 
