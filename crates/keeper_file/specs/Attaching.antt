@@ -13,7 +13,7 @@ use Rattle.keeper_file.specs.declared.inner.Inner.{Inner}
 
 module _ {A O : Type 0} {g : Ghosts A} where
   -- what was opened now is in memory if and only if the path is `:memory:`; what was open stays so
-  pub record OpensAtPlace (old new : Inner A O g) (at : List ℕ) : Type 0 where
+  pub record OpensAtPath (old new : Inner A O g) (at : List ℕ) : Type 0 where
     pub memory : has_open_store old ≡ false → has_open_store new ≡ true → (is_in_memory new ≡ true) ↔ (at ≡ codes ":memory:")
     pub same : has_open_store old ≡ true → is_in_memory new ≡ is_in_memory old
 

@@ -23,7 +23,7 @@ pub record AreRead (db : Database) (tables : Tables) : Type 0 where
   pub rows : db.schema ≡ store_schema → AreAllKeyed db → tables ≡ tables_in db.trees
   pub version : IsAtVersion db (pos 2)
 
--- the same of an open; nothing is said if it found another version
+-- an open that gave tables gave those of the database (`AreRead`); nothing is said if it found another version
 abbrev pub IsRead : Database → Opened → Type 0
 IsRead db (Held tables) = AreRead db tables
 IsRead db (Alien version) = Unit {0}
@@ -33,7 +33,7 @@ abbrev pub IsRefusedAt : Opened → Type 0
 IsRefusedAt (Held tables) = Unit {0}
 IsRefusedAt (Alien version) = (version ≢ pos 1) × (version ≢ pos 2)
 
--- the same, after the commit
+-- what `IsOpened` says, after the commit
 abbrev pub IsStored : State → State → Opened → Type 0
 IsStored old new (Held tables) =
     IsTrue old.is_open × IsTrue new.is_open × (new.committed ≡ new.now) × OpensTo (pos 2) old.now new.now

@@ -36,6 +36,6 @@ is_skipped line = not (is_some (word 0 line)) || (slice_index (word 0 line) 0 ==
 abbrev pub has_words : ℕ → List ℕ → Bool
 has_words n line = is_some (word (n - 1) line) && not (is_some (word n line))
 
--- a number below 8: by such places the words of a line are read
+-- the place of one of the eight words of a line that are read
 abbrev pub IsWordPlace : ℕ → Type 0
 IsWordPlace n = n < 8
