@@ -12,14 +12,12 @@ use Rattle.tap_edges.proofs.Puts.{Appends-more, Appends-none}
 use Rattle.peer_edges.specs.Asks.{AskedOnlyWhen}
 use Rattle.peer_edges.proofs.Asks.{asked_more, asked_as}
 use Rattle.pop_session.specs.declared.hold.TheConstants.{SESSION_LIMIT, PIECE}
-use Rattle.pop_session.specs.declared.letter.Letter.{Letter}
 use Rattle.pop_session.specs.Replies.{greeting}
 use Rattle.pop_session.specs.Requests.{requests}
 use Rattle.pop_session.specs.Sessions.{PopSessionState, replies_from, quits_from, replies_to, phase_after, is_ended}
 use Rattle.pop_session.specs.Laws.{RepliesGrow}
 use Rattle.pop_session.specs.declared.outcome.Phase.TheVariants.{Authorization}
 use Rattle.pop_session.specs.Ends.{TookBytes, PassedSessionLimit, QuitEnd, OpenEnd, LongEnd, PutEnd, SessionEnds}
-use Rattle.tap_base.specs.Prefixes.{IsPrefix}
 
 -- the bytes taken so far
 pub record Taking (left left' : Option (List ℕ)) (taken : ℕ) : Type 0 where

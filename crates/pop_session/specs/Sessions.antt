@@ -1,7 +1,11 @@
 -- What a session replies to all of its bytes.
 use Rattle.std.specs.Prelude.{ℕ, ◌≡◌, ◌≤◌, ◌-◌, ◌⊎◌, List, [], ◌∷◌, ◌++◌, length, take, Bool, true, false}
-use Rattle.std.specs.Prelude.{if◌then◌else◌}
+use Rattle.std.specs.Prelude.{if◌then◌else◌, Result, OnErr, IfErr}
 use Rattle.std.specs.List.{All}
+use Rattle.tap_edges.specs.Edges.{HasCause}
+use Rattle.tap_edges.specs.Puts.{TookSome}
+use Rattle.tap_edges.specs.declared.edges.PutFailed.{PutFailed}
+use Rattle.tap_edges.specs.declared.edges.Sink.{Ghosts}
 use Rattle.pop_session.specs.declared.letter.Letter.{Letter}
 use Rattle.pop_session.specs.declared.outcome.Phase.{Phase}
 use Rattle.pop_session.specs.declared.outcome.Phase.TheVariants.{Authorization, Named, Transaction, Ended}
@@ -67,11 +71,28 @@ replies_from s rest = replies_to s.user s.secret s.letters s.phase (requests (s.
 abbrev pub quits_from : PopSessionState → List ℕ → Bool
 quits_from s rest = is_ended (phase_after s.user s.secret s.phase (requests (s.front ++ rest)))
 
+-- however the bytes go on after these, a new session answers the rest of them as the old one would
+pub record AnswersRest (old new : PopSessionState) (bytes : List ℕ) : Type 0 where
+  -- the replies to all of them are those to these, and the new session's to the rest
+  pub next : (rest : List ℕ) → replies_from old (bytes ++ rest) ≡ replies_from old bytes ++ replies_from new rest
+  -- a QUIT is accepted among all of them if and only if the new session accepts one
+  pub quits : (rest : List ℕ) → quits_from old (bytes ++ rest) ≡ quits_from new rest
+
 -- may the session take bytes? It has greeted, and neither ended nor failed
 pub record CanTakeBytes (s : PopSessionState) : Type 0 where
   pub greeted : s.greeted ≡ true
   pub not_ended : is_ended s.phase ≡ false
   pub not_failed : s.failed ≡ false
+
+-- how a call fails that appends bytes to the first `start` bytes of a reply
+pub record FailsToPut {T K : Type 0} (g : Ghosts K) (start : ℕ) (bytes : List ℕ) (old new : K)
+    (session : PopSessionState) (result : Result T PutFailed) : Type 0 where
+  -- a front of the bytes was put
+  pub err : IfErr result (λ failed. TookSome start (g.out old) (g.out new) bytes failed)
+  -- it fails only if the sink's count of faults rose; otherwise the count is unchanged
+  pub cause : HasCause (g.faults old) (g.faults new) result
+  -- the session has failed then
+  pub failed : OnErr result (session.failed ≡ true)
 
 -- is nothing more looked at? The piece is at its end, or the session is
 abbrev pub IsOver : PopSessionState → List ℕ → Type 0

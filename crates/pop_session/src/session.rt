@@ -1,16 +1,15 @@
 //! A session: the client's bytes in pieces, and the replies to them.
-ghost use Rattle.std.specs.Prelude.{◌≡◌, ◌≤◌, ◌<◌, ◌+◌, ◌-◌, ◌++◌, List, [], ℕ, Bool, true, false};
+ghost use Rattle.std.specs.Prelude.{◌≡◌, ◌≤◌, ◌<◌, ◌+◌, ◌-◌, List, [], ℕ, true, false};
 ghost use Rattle.std.specs.Prelude.{length, take, drop};
-ghost use Rattle.std.specs.Prelude.{OnOk, OnErr, IfOk, IfErr};
+ghost use Rattle.std.specs.Prelude.{OnOk, OnErr, IfOk};
 ghost use Rattle.std.specs.List.{position_or_len};
 ghost use Rattle.std.specs.Io.KnownBytes.{Appends};
 ghost use Rattle.mail_lines.specs.Lines.{is_end, NoEnd};
-ghost use Rattle.tap_edges.specs.Edges.{HasCause};
-ghost use Rattle.tap_edges.specs.Puts.{counted, TookSome, PutBehind};
-ghost use Rattle.pop_session.specs.Replies.{greeting, pop_reply_bytes};
+ghost use Rattle.tap_edges.specs.Puts.{counted, PutBehind};
+ghost use Rattle.pop_session.specs.Replies.{greeting};
 ghost use Rattle.pop_session.specs.Sessions.{PopSessionState, new_session, greeted, replies_from};
 ghost use Rattle.pop_session.specs.Sessions.{quits_from, CanTakeBytes, is_ended, request_grown};
-ghost use Rattle.pop_session.specs.Sessions.{AreShort};
+ghost use Rattle.pop_session.specs.Sessions.{AreShort, AnswersRest, FailsToPut};
 ghost use Rattle.pop_session.specs.Sessions.{held, open_reply, answered, IsOver};
 
 use crate::buffer::greeting_line;
@@ -134,10 +133,7 @@ impl<'a> PopSession<'a> {
         ensures ok { OnOk result (Appends (K.out sink.old) (K.out sink.new) greeting) }
         ensures next { OnOk result (self.new ≡ greeted self.old) }
         ensures ready { OnOk result (CanTakeBytes self.new) }
-        ensures err { IfErr result (λ failed.
-            TookSome 0 (K.out sink.old) (K.out sink.new) greeting failed) }
-        ensures cause { HasCause (K.faults sink.old) (K.faults sink.new) result }
-        ensures failed { OnErr result (self.new.failed ≡ true) }
+        ensures fails { FailsToPut K.Sink 0 greeting sink.old sink.new self.new result }
     {
         match put_next(sink, 0, greeting_line().as_slice()) {
             Ok(_) => {
@@ -203,17 +199,11 @@ impl<'a> PopSession<'a> {
             ≡ counted (start + length (replies_from self.old (take step.used piece.now)))) }
         ensures ok { IfOk result (λ step. Appends (K.out sink.old) (K.out sink.new)
             (replies_from self.old (take step.used piece.now))) }
-        ensures next { IfOk result (λ step. (rest : List ℕ)
-            → replies_from self.old (take step.used piece.now ++ rest)
-            ≡ replies_from self.old (take step.used piece.now) ++ replies_from self.new rest) }
-        ensures quits { IfOk result (λ step. (rest : List ℕ) →
-            quits_from self.old (take step.used piece.now ++ rest) ≡ quits_from self.new rest) }
+        ensures next { IfOk result (λ step.
+            AnswersRest self.old self.new (take step.used piece.now)) }
         ensures going { OnOk result ((self.new.greeted ≡ true) × (self.new.failed ≡ false)) }
-        ensures err { IfErr result (λ failed.
-            TookSome start (K.out sink.old) (K.out sink.new) (replies_from self.old piece.now)
-            failed) }
-        ensures cause { HasCause (K.faults sink.old) (K.faults sink.new) result }
-        ensures failed { OnErr result (self.new.failed ≡ true) }
+        ensures fails { FailsToPut K.Sink start (replies_from self.old piece.now)
+            sink.old sink.new self.new result }
     {
         let len = end_of_request(piece);
         self.hold(&piece[..len]);
@@ -241,20 +231,14 @@ impl<'a> PopSession<'a> {
         requires ready { CanTakeBytes self.old }
         ensures ok { OnOk result
             (Appends (K.out sink.old) (K.out sink.new) (replies_from self.old piece.now)) }
-        ensures next { OnOk result ((rest : List ℕ) →
-            replies_from self.old (piece.now ++ rest)
-            ≡ replies_from self.old piece.now ++ replies_from self.new rest) }
+        ensures next { OnOk result (AnswersRest self.old self.new piece.now) }
         ensures open { OnOk result (replies_from self.new [] ≡ []) }
-        ensures quits { OnOk result
-            ((rest : List ℕ) → quits_from self.old (piece.now ++ rest) ≡ quits_from self.new rest) }
         ensures quit { IfOk result (λ quit. quit ≡ quits_from self.old piece.now) }
         ensures over { IfOk result (λ quit. quit ≡ true → (rest : List ℕ)
             → replies_from self.new rest ≡ []) }
         ensures ready { IfOk result (λ quit. quit ≡ false → CanTakeBytes self.new) }
-        ensures err { IfErr result (λ failed.
-            TookSome 0 (K.out sink.old) (K.out sink.new) (replies_from self.old piece.now) failed) }
-        ensures cause { HasCause (K.faults sink.old) (K.faults sink.new) result }
-        ensures failed { OnErr result (self.new.failed ≡ true) }
+        ensures fails { FailsToPut K.Sink 0 (replies_from self.old piece.now)
+            sink.old sink.new self.new result }
     {
         let mut done = 0usize;
         let mut rest = piece;

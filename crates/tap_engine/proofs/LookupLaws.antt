@@ -1,7 +1,7 @@
 -- Look-ups: what is in memory shows what the tables say.
 use Rattle.std.proofs.Common.{◌≡◌, ◌∙◌, sym, refl, ap, subst, arith, ℕ, zero, suc, ◌+◌, ◌≤◌, ℤ, List, [], ◌∷◌, ◌++◌, length, map, Bool}
 use Rattle.std.proofs.Common.{true, false, Option, Some, None, nat_eq, if◌then◌else◌}
-use Rattle.std.specs.Prelude.{◌||◌, ◌&&◌, ◌==◌, ◌-◌, filter, nat_le, slice_get, Result, Ok, Err, OnOk, IfOk, IfErr}
+use Rattle.std.specs.Prelude.{◌||◌, ◌&&◌, ◌==◌, ◌-◌, filter, nat_le, slice_get, Result, Ok, Err, IfOk, IfErr}
 use Rattle.std.specs.Option.{option_or}
 use Rattle.std.specs.Str.{bytes_eq}
 use Rattle.tap_rows.specs.declared.tables.Tables.{Tables}
@@ -38,9 +38,9 @@ use Rattle.tap_engine.specs.declared.engine.Engine.{Engine}
 use Rattle.tap_engine.specs.declared.prepared.Prepared.{Prepared}
 use Rattle.tap_engine.specs.declared.undo.Undo.TheVariants.{Nothing}
 use Rattle.tap_engine.specs.Standing.{Represents, RefusedBy}
-use Rattle.tap_engine.specs.Answering.{Answers, ReadsAsModel, RefusesAsModel}
+use Rattle.tap_engine.specs.Answering.{Answers, ReadsAsModel, IsReplyTo, RefusesAsModel}
 use Rattle.tap_engine.specs.Costs.{most_steps, lookup_work}
-use Rattle.tap_engine.specs.Lookups.{lookup_refusal, cached_found, LookupRefuses, cached_lookup_work}
+use Rattle.tap_engine.specs.Lookups.{lookup_refusal, cached_found, IsFoundFor, LookupRefuses, cached_lookup_work}
 use Rattle.tap_engine.proofs.AddedRows.{docs-are, notes-are}
 use Rattle.tap_engine.proofs.UndoLaws.{answers-accepted, refused-after}
 
@@ -170,11 +170,14 @@ answers-lookup lookup e t reply represents sound numbered none is =
     }
 
 -- what isn't refused is answered, and what is refused is as the model says
-pub each-answer : (lookup : Lookup) (e : Engine) (r : Result Reply Refusal) → Numbered doc_number 1 e.index.docs
-    → OnOk r (lookup_refusal lookup e ≡ None) → IfOk r (λ reply. reply ≡ cached_found lookup e)
-    → IfOk r (ReadsAsModel e (Find lookup))
-each-answer lookup e (Ok reply) numbered none is = λ t represents sound. answers-lookup lookup e t reply represents sound numbered none is
-each-answer lookup e (Err refusal) numbered none is = tt
+pub each-reply : (lookup : Lookup) (e : Engine) (r : Result Reply Refusal) → Numbered doc_number 1 e.index.docs
+    → IfOk r (IsFoundFor lookup e) → IfOk r (IsReplyTo e (Find lookup))
+each-reply lookup e (Ok reply) numbered found = record {
+  answer = λ t represents sound. answers-lookup lookup e t reply represents sound numbered found.fine found.reply_is;
+  short = found.short;
+  accepted = found.accepted;
+}
+each-reply lookup e (Err refusal) numbered found = tt
 
 pub each-refusal : (lookup : Lookup) (e : Engine) (r : Result Reply Refusal) → Numbered doc_number 1 e.index.docs
     → IfErr r (LookupRefuses lookup e) → IfErr r (RefusesAsModel e (Find lookup))

@@ -151,6 +151,24 @@ represents-more e t h moment texts represents there =
     }) (tables_after (some_docs (docs_from (n + 1) moment texts)) t))
     (sym (ap length (docs-are represents))) (represents-docs e t h moment texts represents there)
 
+-- the engine with one document more
+pub represents-one : (e : Engine) (t : Tables) (h : HitsWithRoom) (moment : ℤ) (text : List ℕ) → Represents e t
+    → (e.session.moment ≡ None → ⊥)
+    → Represents (record e {
+      index = after e.index (Docs (docs_from (length e.index.docs + 1) moment (text ∷ [])));
+      hits = h;
+      bytes = e.bytes + length text;
+    }) (after t (Docs (docs_from (length e.index.docs + 1) moment (text ∷ []))))
+represents-one e t h moment text represents there = subst (λ n. Represents (record e {
+  index = after e.index (Docs (docs_from (length e.index.docs + 1) moment (text ∷ [])));
+  hits = h;
+  bytes = n;
+}) (after t (Docs (docs_from (length e.index.docs + 1) moment (text ∷ [])))))
+    (ap (λ n. e.bytes + n) (sum_by-cons length text []) ∙ one e.bytes (length text))
+    (represents-more e t h moment (text ∷ []) represents there) where
+      one : (a b : ℕ) → a + (b + 0) ≡ a + b
+      one a b = omega arith
+
 -- documents that there are
 pub docs-there : (num : ℕ) (moment : ℤ) (texts : List (List ℕ)) → (length texts == 0) ≡ false
     → Some (Docs (docs_from num moment texts)) ≡ some_docs (docs_from num moment texts)

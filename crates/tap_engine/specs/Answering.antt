@@ -10,6 +10,7 @@ use Rattle.script_lang.specs.declared.reply.Reply.{Reply}
 use Rattle.script_lang.specs.declared.reply.Reply.TheVariants.{No}
 use Rattle.script_lang.specs.declared.refusal.Refusal.{Refusal}
 use Rattle.script_lang.specs.declared.refusal.Refusal.TheVariants.{Memory}
+use Rattle.script_lang.specs.Replies.{HasShortNames, is_accepted}
 use Rattle.tap_model.specs.declared.session.Session.{Session}
 use Rattle.tap_model.specs.Verdicts.{verdict}
 use Rattle.tap_model.specs.Replies.{answer_of, tables_after}
@@ -22,6 +23,7 @@ use Rattle.tap_engine.specs.declared.fault.EngineFault.{EngineFault}
 use Rattle.tap_engine.specs.declared.fault.EngineFault.TheVariants.{KeeperFailed}
 use Rattle.tap_engine.specs.declared.prepared.Prepared.{Prepared}
 use Rattle.tap_engine.specs.Standing.{Represents, OverTables, OverSoundFor}
+use Rattle.tap_engine.specs.Ready.{IsReady}
 use Rattle.tap_engine.specs.declared.undo.Undo.{Undo}
 use Rattle.tap_engine.specs.declared.undo.Undo.TheVariants.{Nothing, Docs, Note, Query, Filter, Run}
 
@@ -95,6 +97,32 @@ pub record UndoRestores (undo : Undo) (engine before : Engine) : Type 0 where
 -- if rows were prepared, their undo gives the engine as it was before
 abbrev pub IsUndoable : Engine → Engine → Prepared → Type 0
 IsUndoable before engine made = OnSome made.change (UndoRestores made.undo engine before)
+
+-- what was prepared for a command that isn't refused, and the engine after it, with its rows
+pub record Prepares (before : Engine) (command : Command) (engine : Engine) (made : Prepared) : Type 0 where
+  -- over tables that are sound for the command, its reply, its rows and the session are the model's answer
+  pub answer : AnswersAsModel before command engine made
+  -- the engine represents these tables with the rows
+  pub represents : RepresentsNext before command engine made
+  -- the rows can be undone
+  pub undo : IsUndoable before engine made
+  -- the engine is ready for the next command
+  pub ready : IsReady engine
+  -- the engine is stopped if and only if it was before
+  pub running : engine.stopped ≡ before.stopped
+  -- the names in the reply are no longer than names may be
+  pub short : HasShortNames made.reply
+  -- the reply begins `ok`
+  pub accepted : is_accepted made.reply ≡ true
+
+-- the reply to a command that only reads and isn't refused
+pub record IsReplyTo (engine : Engine) (command : Command) (reply : Reply) : Type 0 where
+  -- over tables that are sound for the command, the reply is the model's
+  pub answer : ReadsAsModel engine command reply
+  -- the names in the reply are no longer than names may be
+  pub short : HasShortNames reply
+  -- the reply begins `ok`
+  pub accepted : is_accepted reply ≡ true
 
 -- what is returned if the keeper didn't commit
 abbrev pub fault_answer : CommitFault → Result Reply EngineFault

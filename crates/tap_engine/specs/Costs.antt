@@ -128,6 +128,15 @@ most_steps other session tables = 0
 abbrev pub TakesAtMost : Engine → Command → ℕ → ℕ → Type 0
 TakesAtMost engine command before steps = OverTables engine (λ t. steps ≤ before + most_steps command engine.session t)
 
+-- the steps that a command takes, by what it asks for; the second number of steps is that after the command
+pub record TakesFewSteps (engine : Engine) (command : Command) (before steps : ℕ) : Type 0 where
+  -- scores, queries, counts, and a run without a mark in its window take none
+  pub quiet : TakesNoStep engine command before steps
+  -- a run whose paths are documents alone takes no more than rows are due
+  pub due : TakesRowsDue engine command before steps
+  -- every command takes at most `most_steps`
+  pub most : TakesAtMost engine command before steps
+
 -- the same, by what is cached of the query that a command names
 abbrev pub cached_run_work : Engine → Option CachedQuery → ℕ
 cached_run_work engine None = 0

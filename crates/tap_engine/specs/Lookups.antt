@@ -1,5 +1,5 @@
 -- What a look-up shows, why it is refused and what it costs, by what the engine has in memory.
-use Rattle.std.specs.Prelude.{ℕ, [], length, map, Option, None}
+use Rattle.std.specs.Prelude.{ℕ, ◌≡◌, true, [], length, map, Option, None}
 use Rattle.std.specs.Option.{option_or}
 use Rattle.row_index.specs.Held.{indexed_notes}
 use Rattle.script_lang.specs.declared.lookup.Lookup.{Lookup}
@@ -10,6 +10,7 @@ use Rattle.script_lang.specs.declared.refusal.Refusal.TheVariants.{NoDoc}
 use Rattle.script_lang.specs.declared.reply.Reply.{Reply}
 use Rattle.script_lang.specs.declared.reply.Reply.TheVariants.{Found}
 use Rattle.script_lang.specs.Rows.{note_text}
+use Rattle.script_lang.specs.Replies.{HasShortNames, is_accepted}
 use Rattle.tap_model.specs.Sessions.{or_zero, user_of}
 use Rattle.tap_model.specs.Verdicts.{missing, no_user, no_doc}
 use Rattle.tap_model.specs.Lookups.{doc_numbered, shown_doc}
@@ -36,6 +37,17 @@ cached_found Count engine =
 abbrev pub LookupRefuses : Lookup → Engine → Refusal → Type 0
 LookupRefuses Count engine refusal = ⊥
 LookupRefuses lookup engine refusal = RefusedBy (lookup_refusal lookup engine) refusal
+
+-- the reply to a look-up that isn't refused
+pub record IsFoundFor (lookup : Lookup) (engine : Engine) (reply : Reply) : Type 0 where
+  -- nothing refuses the look-up
+  pub fine : lookup_refusal lookup engine ≡ None
+  -- the reply is what is in memory
+  pub reply_is : reply ≡ cached_found lookup engine
+  -- the names in the reply are no longer than names may be
+  pub short : HasShortNames reply
+  -- the reply begins `ok`
+  pub accepted : is_accepted reply ≡ true
 
 -- the steps that a look-up may take
 abbrev pub cached_lookup_work : Lookup → Engine → ℕ

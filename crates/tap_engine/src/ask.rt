@@ -1,10 +1,9 @@
 //! The documents that a condition gives at a past second.
 
-ghost use Rattle.std.specs.Prelude.{◌≡◌, true, int_lt, IfOk, IfErr};
+ghost use Rattle.std.specs.Prelude.{◌≡◌, int_lt, IfOk, IfErr};
 ghost use Rattle.std.specs.Result.{result_err};
 ghost use Rattle.script_lang.specs.declared.command.Command.{Command};
 ghost use Rattle.script_lang.specs.declared.refusal.Refusal.{Refusal};
-ghost use Rattle.script_lang.specs.Replies.{HasShortNames, is_accepted};
 ghost use Rattle.tap_model.specs.Verdicts.{refuse_unless};
 
 use crate::engine::Engine;
@@ -27,7 +26,7 @@ fn refuse_open(second: i64, now: i64) -> Result<(), Refusal>
 }
 
 impl Engine {
-    ghost use Rattle.tap_engine.specs.Answering.{ReadsAsModel, RefusesAsModel};
+    ghost use Rattle.tap_engine.specs.Answering.{IsReplyTo, RefusesAsModel};
     ghost use Rattle.tap_engine.specs.Costs.{TakesAtMost};
 
     // Lists the documents that a condition gives at a past second.
@@ -38,11 +37,9 @@ impl Engine {
         source: &[u8],
         steps: &mut Steps<L>,
     ) -> Result<Reply, Refusal>
-        ensures ok { IfOk result (ReadsAsModel self.now (Command.Ask moment.now source.now)) }
+        ensures ok { IfOk result (IsReplyTo self.now (Command.Ask moment.now source.now)) }
         ensures refusal { IfErr result
             (RefusesAsModel self.now (Command.Ask moment.now source.now)) }
-        ensures short { IfOk result (λ reply. HasShortNames reply) }
-        ensures accepted { IfOk result (λ reply. is_accepted reply ≡ true) }
         ensures most { TakesAtMost self.now (Command.Ask moment.now source.now)
             steps.old steps.new }
     {

@@ -2,7 +2,6 @@
 
 ghost use Rattle.std.specs.Prelude.{◌≡◌, None, Some, true, OnOk, IfOk, IfErr};
 ghost use Rattle.script_lang.specs.declared.command.Command.{Command};
-ghost use Rattle.script_lang.specs.Replies.{HasShortNames, is_accepted};
 ghost use Rattle.tap_base.specs.Names.{is_name};
 
 use crate::engine::Engine;
@@ -13,7 +12,7 @@ use tap_kept::copy_entries;
 use tap_rows::Entry;
 
 impl Engine {
-    ghost use Rattle.tap_engine.specs.Answering.{ReadsAsModel, RefusesAsModel};
+    ghost use Rattle.tap_engine.specs.Answering.{IsReplyTo, RefusesAsModel};
     ghost use Rattle.tap_engine.specs.Standing.{look_refusal, cached_named, cached_entries};
     ghost use Rattle.tap_engine.specs.Standing.{RefusedBy};
 
@@ -32,10 +31,8 @@ impl Engine {
 
     // Lists what the user's query of this name has delivered.
     pub(crate) fn show_box(&self, alloc: Global, name: Text) -> Result<Reply, Refusal>
-        ensures ok { IfOk result (ReadsAsModel self.now (Command.BoxOf name)) }
+        ensures ok { IfOk result (IsReplyTo self.now (Command.BoxOf name)) }
         ensures refusal { IfErr result (RefusesAsModel self.now (Command.BoxOf name)) }
-        ensures short { IfOk result (λ reply. HasShortNames reply) }
-        ensures accepted { IfOk result (λ reply. is_accepted reply ≡ true) }
     {
         let entries = self.entries_named(alloc, name.as_slice())?;
         Ok(Reply::BoxOf { name, entries })

@@ -6,7 +6,6 @@ ghost use Rattle.std.specs.Result.{result_err};
 ghost use Rattle.tap_base.specs.Words.{has_text};
 ghost use Rattle.tap_rows.specs.declared.change.Change.{Change as RowChange};
 ghost use Rattle.script_lang.specs.declared.command.Command.{Command};
-ghost use Rattle.script_lang.specs.Replies.{HasShortNames, is_accepted};
 ghost use Rattle.tap_model.specs.Verdicts.{refuse_unless, first_refusal};
 ghost use Rattle.script_lang.specs.declared.refusal.Refusal.{Refusal};
 ghost use Rattle.tql_core.specs.Bounds.{are_bounded};
@@ -65,8 +64,7 @@ fn push_query(
 }
 
 impl Engine {
-    ghost use Rattle.tap_engine.specs.Answering.{AnswersAsModel, RepresentsNext, RefusesAsModel};
-    ghost use Rattle.tap_engine.specs.Answering.{IsUndoable};
+    ghost use Rattle.tap_engine.specs.Answering.{Prepares, RefusesAsModel};
     ghost use Rattle.tap_engine.specs.Standing.{name_refusal, query_limits, early_define};
     ghost use Rattle.tap_engine.specs.Standing.{define_refusal, RefusedAfter};
     ghost use Rattle.tap_engine.specs.Ready.{IsReady};
@@ -198,16 +196,9 @@ impl Engine {
         source: Text,
     ) -> Result<Prepared, Refusal>
         requires ready { IsReady self.old }
-        ensures ok { IfOk result (AnswersAsModel self.old (Command.Define name source) self.new) }
-        ensures represents { IfOk result
-            (RepresentsNext self.old (Command.Define name source) self.new) }
+        ensures ok { IfOk result (Prepares self.old (Command.Define name source) self.new) }
         ensures refusal { IfErr result (RefusesAsModel self.old (Command.Define name source)) }
         ensures err { OnErr result (self.new ≡ self.old) }
-        ensures undo { IfOk result (IsUndoable self.old self.new) }
-        ensures ready { OnOk result (IsReady self.new) }
-        ensures running { OnOk result (self.new.stopped ≡ self.old.stopped) }
-        ensures short { IfOk result (λ made. HasShortNames made.reply) }
-        ensures accepted { IfOk result (λ made. is_accepted made.reply ≡ true) }
     {
         let undo = Undo::Query {
             len: self.queries.len(),

@@ -3,7 +3,6 @@
 ghost use Rattle.std.specs.Prelude.{◌≡◌, ◌≤◌, ◌+◌, None, Some, true, OnOk, IfOk, IfErr};
 ghost use Rattle.std.specs.Result.{result_err};
 ghost use Rattle.script_lang.specs.declared.command.Command.{Command};
-ghost use Rattle.script_lang.specs.Replies.{HasShortNames, is_accepted};
 ghost use Rattle.tap_base.specs.Names.{is_name};
 ghost use Rattle.tap_model.specs.Verdicts.{no_run};
 
@@ -28,7 +27,7 @@ fn refuse_run(ordinal: u32, runs: u32) -> Result<(), Refusal>
 }
 
 impl Engine {
-    ghost use Rattle.tap_engine.specs.Answering.{ReadsAsModel, RefusesAsModel};
+    ghost use Rattle.tap_engine.specs.Answering.{IsReplyTo, RefusesAsModel};
     ghost use Rattle.tap_engine.specs.Standing.{look_refusal, digest_refusal, cached_named};
     ghost use Rattle.tap_engine.specs.Standing.{RefusedAfter};
     ghost use Rattle.tap_engine.specs.Lists.{cached_digest};
@@ -71,10 +70,8 @@ impl Engine {
         ordinal: u32,
         steps: &mut Steps<L>,
     ) -> Result<Reply, Refusal>
-        ensures ok { IfOk result (ReadsAsModel self.now (Command.DigestOf name ordinal)) }
+        ensures ok { IfOk result (IsReplyTo self.now (Command.DigestOf name ordinal)) }
         ensures refusal { IfErr result (RefusesAsModel self.now (Command.DigestOf name ordinal)) }
-        ensures short { IfOk result (λ reply. HasShortNames reply) }
-        ensures accepted { IfOk result (λ reply. is_accepted reply ≡ true) }
         ensures most { TakesAtMost self.now (Command.DigestOf name ordinal) steps.old steps.new }
     {
         let lines = self.digest_named(alloc, name.as_slice(), ordinal, steps)?;

@@ -2,7 +2,6 @@
 
 ghost use Rattle.std.specs.Prelude.{◌≡◌, None, Some, true, OnOk, IfOk, IfErr};
 ghost use Rattle.script_lang.specs.declared.command.Command.{Command};
-ghost use Rattle.script_lang.specs.Replies.{HasShortNames, is_accepted};
 ghost use Rattle.tap_base.specs.Names.{is_name};
 
 use crate::engine::Engine;
@@ -11,7 +10,7 @@ use std::alloc::Global;
 use tap_base::{Text, Texts};
 
 impl Engine {
-    ghost use Rattle.tap_engine.specs.Answering.{ReadsAsModel, RefusesAsModel};
+    ghost use Rattle.tap_engine.specs.Answering.{IsReplyTo, RefusesAsModel};
     ghost use Rattle.tap_engine.specs.Standing.{look_refusal, cached_named, RefusedBy};
     ghost use Rattle.tap_engine.specs.Lists.{cached_lines};
 
@@ -31,10 +30,8 @@ impl Engine {
 
     // Explains the user's query of this name.
     pub(crate) fn explain(&self, alloc: Global, name: Text) -> Result<Reply, Refusal>
-        ensures ok { IfOk result (ReadsAsModel self.now (Command.Explain name)) }
+        ensures ok { IfOk result (IsReplyTo self.now (Command.Explain name)) }
         ensures refusal { IfErr result (RefusesAsModel self.now (Command.Explain name)) }
-        ensures short { IfOk result (λ reply. HasShortNames reply) }
-        ensures accepted { IfOk result (λ reply. is_accepted reply ≡ true) }
     {
         let lines = self.lines_named(alloc, name.as_slice())?;
         Ok(Reply::Explain { name, lines })

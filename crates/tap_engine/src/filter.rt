@@ -1,12 +1,11 @@
 //! The command that sets a user's filter.
 
 ghost use Rattle.std.specs.Prelude.{◌≡◌, ◌⊎◌, ◌≤◌, ◌<◌, ◌+◌, ◌^◌, ◌++◌, [], ◌∷◌};
-ghost use Rattle.std.specs.Prelude.{length, Some, None, true, OnOk, OnErr, IfOk, IfErr};
+ghost use Rattle.std.specs.Prelude.{length, Some, None, OnOk, OnErr, IfOk, IfErr};
 ghost use Rattle.std.specs.Result.{result_err};
 ghost use Rattle.tap_rows.specs.declared.change.Change.{Change as RowChange};
 ghost use Rattle.script_lang.specs.declared.command.Command.{Command};
 ghost use Rattle.script_lang.specs.declared.refusal.Refusal.{Refusal};
-ghost use Rattle.script_lang.specs.Replies.{HasShortNames, is_accepted};
 ghost use Rattle.filter_rules.specs.Rules.{rules_in};
 ghost use Rattle.filter_rules.specs.RuleTexts.{IsWithin};
 ghost use Rattle.tap_model.specs.Filters.{rules_in_text};
@@ -93,8 +92,7 @@ fn push_filter(
 }
 
 impl Engine {
-    ghost use Rattle.tap_engine.specs.Answering.{AnswersAsModel, RepresentsNext, RefusesAsModel};
-    ghost use Rattle.tap_engine.specs.Answering.{IsUndoable};
+    ghost use Rattle.tap_engine.specs.Answering.{Prepares, RefusesAsModel};
     ghost use Rattle.tap_engine.specs.Standing.{RefusedAfter};
     ghost use Rattle.tap_engine.specs.Ready.{IsReady};
     ghost use Rattle.tap_engine.specs.FilterChecks.{filter_limits, early_filter, filter_refusal};
@@ -172,15 +170,9 @@ impl Engine {
     // Sets the user's filter: the user's last filter rates the boxes.
     pub(crate) fn filter(&mut self, alloc: Global, block: Block) -> Result<Prepared, Refusal>
         requires ready { IsReady self.old }
-        ensures ok { IfOk result (AnswersAsModel self.old (Command.Filter block) self.new) }
-        ensures represents { IfOk result (RepresentsNext self.old (Command.Filter block) self.new) }
+        ensures ok { IfOk result (Prepares self.old (Command.Filter block) self.new) }
         ensures refusal { IfErr result (RefusesAsModel self.old (Command.Filter block)) }
         ensures err { OnErr result (self.new ≡ self.old) }
-        ensures undo { IfOk result (IsUndoable self.old self.new) }
-        ensures ready { OnOk result (IsReady self.new) }
-        ensures running { OnOk result (self.new.stopped ≡ self.old.stopped) }
-        ensures short { IfOk result (λ made. HasShortNames made.reply) }
-        ensures accepted { IfOk result (λ made. is_accepted made.reply ≡ true) }
     {
         let undo = Undo::Filter {
             len: self.filters.len(),

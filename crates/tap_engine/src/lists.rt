@@ -5,7 +5,6 @@ ghost use Rattle.std.specs.List.{All};
 ghost use Rattle.std.specs.Option.{option_copied};
 ghost use Rattle.tap_base.specs.Names.{is_name};
 ghost use Rattle.script_lang.specs.declared.command.Command.{Command};
-ghost use Rattle.script_lang.specs.Replies.{HasShortNames, is_accepted};
 ghost use Rattle.filter_rules.specs.Listings.{listing_of};
 ghost use Rattle.tap_model.specs.Filters.{last_filter, filter_rules};
 ghost use Rattle.tap_model.specs.Sessions.{user_of};
@@ -54,7 +53,7 @@ pub(crate) fn rate<'a, L: Ledger>(
 }
 
 impl Engine {
-    ghost use Rattle.tap_engine.specs.Answering.{ReadsAsModel, RefusesAsModel};
+    ghost use Rattle.tap_engine.specs.Answering.{IsReplyTo, RefusesAsModel};
     ghost use Rattle.tap_engine.specs.Standing.{look_refusal, cached_named, RefusedBy};
     ghost use Rattle.tap_engine.specs.Lists.{cached_rows};
     ghost use Rattle.tap_engine.specs.Costs.{TakesAtMost, cached_list_work};
@@ -99,10 +98,8 @@ impl Engine {
         name: Text,
         steps: &mut Steps<L>,
     ) -> Result<Reply, Refusal>
-        ensures ok { IfOk result (ReadsAsModel self.now (Command.ListOf name)) }
+        ensures ok { IfOk result (IsReplyTo self.now (Command.ListOf name)) }
         ensures refusal { IfErr result (RefusesAsModel self.now (Command.ListOf name)) }
-        ensures short { IfOk result (λ reply. HasShortNames reply) }
-        ensures accepted { IfOk result (λ reply. is_accepted reply ≡ true) }
         ensures most { TakesAtMost self.now (Command.ListOf name) steps.old steps.new }
     {
         let rows = self.rows_named(alloc, name.as_slice(), steps)?;

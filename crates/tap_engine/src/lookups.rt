@@ -1,11 +1,10 @@
 //! The commands that look stored rows up.
 
-ghost use Rattle.std.specs.Prelude.{◌≡◌, ◌≤◌, ◌+◌, None, true, OnOk, IfOk, IfErr};
+ghost use Rattle.std.specs.Prelude.{◌≡◌, ◌≤◌, ◌+◌, None, IfOk, IfErr};
 ghost use Rattle.std.specs.Option.{option_or};
 ghost use Rattle.row_index.specs.Orders.{InPlace, doc_number, doc_arrival};
 ghost use Rattle.script_lang.specs.declared.command.Command.{Command};
 ghost use Rattle.script_lang.specs.declared.lookup.Lookup.{Lookup as Rows};
-ghost use Rattle.script_lang.specs.Replies.{HasShortNames, is_accepted};
 ghost use Rattle.tap_model.specs.Sessions.{or_zero};
 
 use crate::engine::Engine;
@@ -17,9 +16,9 @@ use tap_base::{DocNum, Steps, Texts};
 use tap_kept::{note_lines, text_lines};
 
 impl Engine {
-    ghost use Rattle.tap_engine.specs.Answering.{ReadsAsModel, RefusesAsModel};
+    ghost use Rattle.tap_engine.specs.Answering.{IsReplyTo, RefusesAsModel};
     ghost use Rattle.tap_engine.specs.Costs.{TakesNoStep, TakesAtMost, IsQuietLookup};
-    ghost use Rattle.tap_engine.specs.Lookups.{lookup_refusal, cached_found, LookupRefuses};
+    ghost use Rattle.tap_engine.specs.Lookups.{lookup_refusal, IsFoundFor, LookupRefuses};
     ghost use Rattle.tap_engine.specs.Lookups.{cached_lookup_work};
     ghost use Rattle.tap_engine.specs.Standing.{RefusedBy};
 
@@ -30,12 +29,9 @@ impl Engine {
         num: u32,
         steps: &mut Steps<L>,
     ) -> Result<Reply, Refusal>
-        ensures fine { OnOk result (lookup_refusal (Rows.ShowDoc num) self.now ≡ None) }
-        ensures reply { IfOk result (λ reply. reply ≡ cached_found (Rows.ShowDoc num) self.now) }
+        ensures ok { IfOk result (IsFoundFor (Rows.ShowDoc num) self.now) }
         ensures refusal { IfErr result (λ refusal.
             RefusedBy (lookup_refusal (Rows.ShowDoc num) self.now) refusal) }
-        ensures short { IfOk result (λ reply. HasShortNames reply) }
-        ensures accepted { IfOk result (λ reply. is_accepted reply ≡ true) }
         ensures steps { steps.new ≤ steps.old + 1 }
     {
         let Some(kept) = self.index.doc(DocNum(num), steps) else {
@@ -59,12 +55,9 @@ impl Engine {
         num: u32,
         steps: &mut Steps<L>,
     ) -> Result<Reply, Refusal>
-        ensures fine { OnOk result (lookup_refusal (Rows.ListNotes num) self.now ≡ None) }
-        ensures reply { IfOk result (λ reply. reply ≡ cached_found (Rows.ListNotes num) self.now) }
+        ensures ok { IfOk result (IsFoundFor (Rows.ListNotes num) self.now) }
         ensures refusal { IfErr result (λ refusal.
             RefusedBy (lookup_refusal (Rows.ListNotes num) self.now) refusal) }
-        ensures short { IfOk result (λ reply. HasShortNames reply) }
-        ensures accepted { IfOk result (λ reply. is_accepted reply ≡ true) }
         ensures steps { steps.new ≤ steps.old + cached_lookup_work (Rows.ListNotes num) self.now }
     {
         refuse_doc(num, self.index.docs() as usize)?;
@@ -77,12 +70,9 @@ impl Engine {
 
     // Shows the user's queries.
     fn list_queries(&self, alloc: Global) -> Result<Reply, Refusal>
-        ensures fine { OnOk result (lookup_refusal Rows.ListQueries self.now ≡ None) }
-        ensures reply { IfOk result (λ reply. reply ≡ cached_found Rows.ListQueries self.now) }
+        ensures ok { IfOk result (IsFoundFor Rows.ListQueries self.now) }
         ensures refusal { IfErr result (λ refusal.
             RefusedBy (lookup_refusal Rows.ListQueries self.now) refusal) }
-        ensures short { IfOk result (λ reply. HasShortNames reply) }
-        ensures accepted { IfOk result (λ reply. is_accepted reply ≡ true) }
     {
         let Some(user) = &self.session.user else {
             return Err(Refusal::NoUser);
@@ -106,9 +96,7 @@ impl Engine {
 
     // Counts the documents and the notes. It takes no memory.
     fn count(&self, alloc: Global) -> Reply
-        ensures reply { result ≡ cached_found Rows.Count self.now }
-        ensures short { HasShortNames result }
-        ensures accepted { is_accepted result ≡ true }
+        ensures { IsFoundFor Rows.Count self.now result }
     {
         Reply::Found {
             found: Found::Counts {
@@ -127,11 +115,8 @@ impl Engine {
         lookup: Lookup,
         steps: &mut Steps<L>,
     ) -> Result<Reply, Refusal>
-        ensures fine { OnOk result (lookup_refusal lookup self.now ≡ None) }
-        ensures reply { IfOk result (λ reply. reply ≡ cached_found lookup self.now) }
+        ensures ok { IfOk result (IsFoundFor lookup self.now) }
         ensures refusal { IfErr result (λ refusal. LookupRefuses lookup self.now refusal) }
-        ensures short { IfOk result (λ reply. HasShortNames reply) }
-        ensures accepted { IfOk result (λ reply. is_accepted reply ≡ true) }
         ensures quiet { IsQuietLookup lookup → steps.new ≡ steps.old }
         ensures steps { steps.new ≤ steps.old + cached_lookup_work lookup self.now }
     {
@@ -150,10 +135,8 @@ impl Engine {
         lookup: Lookup,
         steps: &mut Steps<L>,
     ) -> Result<Reply, Refusal>
-        ensures ok { IfOk result (ReadsAsModel self.now (Command.Find lookup)) }
+        ensures ok { IfOk result (IsReplyTo self.now (Command.Find lookup)) }
         ensures refusal { IfErr result (RefusesAsModel self.now (Command.Find lookup)) }
-        ensures short { IfOk result (λ reply. HasShortNames reply) }
-        ensures accepted { IfOk result (λ reply. is_accepted reply ≡ true) }
         ensures quiet { TakesNoStep self.now (Command.Find lookup) steps.old steps.new }
         ensures most { TakesAtMost self.now (Command.Find lookup) steps.old steps.new }
     {

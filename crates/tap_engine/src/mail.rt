@@ -1,6 +1,6 @@
 //! The command that adds a message.
 
-ghost use Rattle.std.specs.Prelude.{◌≡◌, true, ◌≤◌, ◌<◌, ◌+◌, ◌^◌, [], ◌∷◌, length, Some, OnOk};
+ghost use Rattle.std.specs.Prelude.{◌≡◌, ◌≤◌, ◌<◌, ◌+◌, ◌^◌, [], ◌∷◌, length, Some, OnOk};
 ghost use Rattle.std.specs.Prelude.{OnErr, IfOk, IfErr};
 ghost use Rattle.std.specs.Result.{result_err};
 ghost use Rattle.tap_rows.specs.declared.change.Change.{Change as RowChange};
@@ -8,7 +8,6 @@ ghost use Rattle.tap_rows.specs.Tables.{after};
 ghost use Rattle.row_index.specs.Orders.{doc_arrival};
 ghost use Rattle.tap_engine.specs.Arriving.{MayArrive};
 ghost use Rattle.script_lang.specs.declared.command.Command.{Command};
-ghost use Rattle.script_lang.specs.Replies.{HasShortNames, is_accepted};
 ghost use Rattle.tap_model.specs.Verdicts.{too_long, block_text};
 ghost use Rattle.tap_model.specs.Replies.{docs_from};
 
@@ -52,8 +51,7 @@ fn make_row(alloc: Global, num: DocNum, moment: i64, text: SharedText) -> Result
 
 impl Engine {
     ghost use Rattle.tap_engine.specs.Ready.{IsReady};
-    ghost use Rattle.tap_engine.specs.Answering.{IsUnchangedButHits, AnswersAsModel};
-    ghost use Rattle.tap_engine.specs.Answering.{RepresentsNext, RefusesAsModel, IsUndoable};
+    ghost use Rattle.tap_engine.specs.Answering.{IsUnchangedButHits, Prepares, RefusesAsModel};
 
     // Adds a document that arrives at this moment, and gives its number and its row as a change.
     // All memory is taken before the index grows, so that at Err nothing has changed but the room
@@ -95,15 +93,9 @@ impl Engine {
     // Adds a message.
     pub(crate) fn mail(&mut self, alloc: Global, block: Block) -> Result<Prepared, Refusal>
         requires ready { IsReady self.old }
-        ensures ok { IfOk result (AnswersAsModel self.old (Command.Mail block) self.new) }
-        ensures represents { IfOk result (RepresentsNext self.old (Command.Mail block) self.new) }
+        ensures ok { IfOk result (Prepares self.old (Command.Mail block) self.new) }
         ensures refusal { IfErr result (RefusesAsModel self.old (Command.Mail block)) }
         ensures err { OnErr result (IsUnchangedButHits self.new self.old) }
-        ensures undo { IfOk result (IsUndoable self.old self.new) }
-        ensures ready { OnOk result (IsReady self.new) }
-        ensures running { OnOk result (self.new.stopped ≡ self.old.stopped) }
-        ensures short { IfOk result (λ made. HasShortNames made.reply) }
-        ensures accepted { IfOk result (λ made. is_accepted made.reply ≡ true) }
     {
         let Some(moment) = self.session.moment else {
             return Err(Refusal::NoMoment);

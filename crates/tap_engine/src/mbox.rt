@@ -8,7 +8,6 @@ ghost use Rattle.tap_rows.specs.Tables.{after};
 ghost use Rattle.row_index.specs.Orders.{doc_arrival};
 ghost use Rattle.tap_engine.specs.Arriving.{MayArrive, AreShortTexts};
 ghost use Rattle.script_lang.specs.declared.command.Command.{Command};
-ghost use Rattle.script_lang.specs.Replies.{HasShortNames, is_accepted};
 ghost use Rattle.tap_model.specs.Sessions.{moment_or_zero};
 ghost use Rattle.tap_model.specs.Verdicts.{no_moment, messages_of, are_short, long_message};
 ghost use Rattle.tap_model.specs.Verdicts.{long_block, bytes_of_all};
@@ -174,8 +173,7 @@ fn add_all(
 impl Engine {
     ghost use Rattle.tap_engine.specs.Standing.{mbox_bounds, mbox_refusal, RefusedAfter};
     ghost use Rattle.tap_engine.specs.Ready.{IsReady};
-    ghost use Rattle.tap_engine.specs.Answering.{IsUnchangedButHits, AnswersAsModel};
-    ghost use Rattle.tap_engine.specs.Answering.{RepresentsNext, RefusesAsModel, IsUndoable};
+    ghost use Rattle.tap_engine.specs.Answering.{IsUnchangedButHits, Prepares, RefusesAsModel};
 
     // Refuses messages of a mailbox file that pass a limit.
     #[tactic(auto, unfolding(crate::specs::Standing::mbox_bounds))]
@@ -259,15 +257,9 @@ impl Engine {
     // Adds the messages of a mailbox file, all in one change.
     pub(crate) fn mbox(&mut self, alloc: Global, block: Block) -> Result<Prepared, Refusal>
         requires ready { IsReady self.old }
-        ensures ok { IfOk result (AnswersAsModel self.old (Command.Mbox block) self.new) }
-        ensures represents { IfOk result (RepresentsNext self.old (Command.Mbox block) self.new) }
+        ensures ok { IfOk result (Prepares self.old (Command.Mbox block) self.new) }
         ensures refusal { IfErr result (RefusesAsModel self.old (Command.Mbox block)) }
         ensures err { OnErr result (IsUnchangedButHits self.new self.old) }
-        ensures undo { IfOk result (IsUndoable self.old self.new) }
-        ensures ready { OnOk result (IsReady self.new) }
-        ensures running { OnOk result (self.new.stopped ≡ self.old.stopped) }
-        ensures short { IfOk result (λ made. HasShortNames made.reply) }
-        ensures accepted { IfOk result (λ made. is_accepted made.reply ≡ true) }
     {
         let undo = Undo::Docs {
             len: self.index.docs() as usize,

@@ -1,6 +1,6 @@
 //! The command that adds a note on a document.
 
-ghost use Rattle.std.specs.Prelude.{◌≡◌, ◌<◌, ◌+◌, ◌^◌, length, None, true, OnOk, OnErr, IfOk};
+ghost use Rattle.std.specs.Prelude.{◌≡◌, ◌<◌, ◌+◌, ◌^◌, length, None, OnOk, OnErr, IfOk};
 ghost use Rattle.std.specs.Prelude.{IfErr};
 ghost use Rattle.std.specs.Result.{result_err};
 ghost use Rattle.tap_rows.specs.declared.change.Change.{Change as RowChange};
@@ -8,7 +8,6 @@ ghost use Rattle.tap_rows.specs.Tables.{after};
 ghost use Rattle.row_index.specs.Orders.{note_arrival};
 ghost use Rattle.tap_engine.specs.Arriving.{MayArrive};
 ghost use Rattle.script_lang.specs.declared.command.Command.{Command};
-ghost use Rattle.script_lang.specs.Replies.{HasShortNames, is_accepted};
 ghost use Rattle.tap_model.specs.Sessions.{moment_or_zero, user_of};
 ghost use Rattle.tap_model.specs.Verdicts.{no_doc, long_note};
 ghost use Rattle.vote_scores.specs.Tally.{CanUndoVote, without_vote, with_vote};
@@ -50,8 +49,7 @@ fn refuse_long(len: usize) -> Result<(), Refusal>
 }
 
 impl Engine {
-    ghost use Rattle.tap_engine.specs.Answering.{AnswersAsModel, RepresentsNext, RefusesAsModel};
-    ghost use Rattle.tap_engine.specs.Answering.{IsUndoable};
+    ghost use Rattle.tap_engine.specs.Answering.{Prepares, RefusesAsModel};
     ghost use Rattle.tap_engine.specs.Standing.{note_bounds, note_refusal, RefusedBy};
     ghost use Rattle.tap_engine.specs.Ready.{IsReady};
 
@@ -141,17 +139,10 @@ impl Engine {
     ) -> Result<Prepared, Refusal>
         requires ready { IsReady self.old }
         ensures ok { IfOk result
-            (AnswersAsModel self.old (Command.AddNote doc kind value text) self.new) }
-        ensures represents { IfOk result
-            (RepresentsNext self.old (Command.AddNote doc kind value text) self.new) }
+            (Prepares self.old (Command.AddNote doc kind value text) self.new) }
         ensures refusal { IfErr result
             (RefusesAsModel self.old (Command.AddNote doc kind value text)) }
         ensures err { OnErr result (self.new ≡ self.old) }
-        ensures undo { IfOk result (IsUndoable self.old self.new) }
-        ensures ready { OnOk result (IsReady self.new) }
-        ensures running { OnOk result (self.new.stopped ≡ self.old.stopped) }
-        ensures short { IfOk result (λ made. HasShortNames made.reply) }
-        ensures accepted { IfOk result (λ made. is_accepted made.reply ≡ true) }
     {
         let bytes = self.bytes;
         let note = self.new_note(doc, kind, value, text)?;

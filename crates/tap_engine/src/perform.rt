@@ -24,10 +24,10 @@ use tap_base::Steps;
 impl Engine {
     ghost use Rattle.tap_engine.specs.Standing.{Represents, OverSoundFor};
     ghost use Rattle.tap_engine.specs.Ready.{IsReady};
-    ghost use Rattle.tap_engine.specs.Answering.{AnswersAsModel, RepresentsNext, RefusesSoundly};
-    ghost use Rattle.tap_engine.specs.Answering.{IsUndoable, AddsRows};
+    ghost use Rattle.tap_engine.specs.Answering.{Prepares, RefusesSoundly, AddsRows};
     ghost use Rattle.tap_engine.specs.Answering.{IsUnchangedButHits, fault_answer, fault_engine};
     ghost use Rattle.tap_engine.specs.Costs.{TakesNoStep, TakesRowsDue, TakesAtMost};
+    ghost use Rattle.tap_engine.specs.Costs.{TakesFewSteps};
 
     // Takes all memory that a command needs, and adds its rows to the engine, unless the command is
     // refused.
@@ -38,18 +38,10 @@ impl Engine {
         steps: &mut Steps<L>,
     ) -> Result<Prepared, Refusal>
         requires ready { IsReady self.old }
-        ensures ok { IfOk result (AnswersAsModel self.old command self.new) }
-        ensures represents { IfOk result (RepresentsNext self.old command self.new) }
+        ensures ok { IfOk result (Prepares self.old command self.new) }
         ensures refusal { IfErr result (RefusesSoundly self.old command) }
         ensures err { OnErr result (IsUnchangedButHits self.new self.old) }
-        ensures undo { IfOk result (IsUndoable self.old self.new) }
-        ensures ready { OnOk result (IsReady self.new) }
-        ensures running { OnOk result (self.new.stopped ≡ self.old.stopped) }
-        ensures short { IfOk result (λ made. HasShortNames made.reply) }
-        ensures accepted { IfOk result (λ made. is_accepted made.reply ≡ true) }
-        ensures quiet { TakesNoStep self.old command steps.old steps.new }
-        ensures due { TakesRowsDue self.old command steps.old steps.new }
-        ensures most { TakesAtMost self.old command steps.old steps.new }
+        ensures steps { TakesFewSteps self.old command steps.old steps.new }
     {
         match command {
             Command::At(text) => self.at(text.as_slice()),

@@ -1,13 +1,12 @@
 //! The command that runs a query.
 
 ghost use Rattle.std.specs.Prelude.{◌≡◌, ◌≤◌, ◌<◌, ◌+◌, ◌-◌, ◌^◌};
-ghost use Rattle.std.specs.Prelude.{true, length, map, max, Some, None, slice_index_or, slice_set};
+ghost use Rattle.std.specs.Prelude.{length, map, max, Some, None, slice_index_or, slice_set};
 ghost use Rattle.std.specs.Prelude.{OnOk, OnErr, IfOk, IfErr, IfSome};
 ghost use Rattle.tap_rows.specs.declared.change.Change.{Change as RowChange};
 ghost use Rattle.tap_rows.specs.Deliveries.{pick_rows};
 ghost use Rattle.tap_rows.specs.Results.{entry_at};
 ghost use Rattle.script_lang.specs.declared.command.Command.{Command};
-ghost use Rattle.script_lang.specs.Replies.{HasShortNames, is_accepted};
 ghost use Rattle.tap_kept.specs.declared.cached_query.CachedQuery.{CachedQuery};
 ghost use Rattle.tap_kept.specs.Keeping.{after_run, AreNew, HoldsAt};
 
@@ -67,12 +66,12 @@ fn copy_hits(alloc: Global, hits: &[Hit]) -> Result<Rows<Hit>, Memory>
 }
 
 impl Engine {
-    ghost use Rattle.tap_engine.specs.Costs.{TakesNoStep, TakesRowsDue, TakesAtMost};
+    ghost use Rattle.tap_engine.specs.Costs.{TakesNoStep, TakesRowsDue, TakesFewSteps};
     ghost use Rattle.tap_engine.specs.Costs.{cached_run_work};
     ghost use Rattle.tap_engine.specs.Standing.{run_refusal, cached_named, due_of, RefusedBy};
     ghost use Rattle.tap_engine.specs.Ready.{IsReady};
-    ghost use Rattle.tap_engine.specs.Answering.{IsUnchangedButHits, undo_run, AnswersAsModel};
-    ghost use Rattle.tap_engine.specs.Answering.{RepresentsNext, RefusesSoundly, IsUndoable};
+    ghost use Rattle.tap_engine.specs.Answering.{IsUnchangedButHits, undo_run, Prepares};
+    ghost use Rattle.tap_engine.specs.Answering.{RefusesSoundly};
 
     // Finds what a run of the user's query of this name delivers, or gives the first refusal. The
     // limit of runs is checked before the search and the limit of picks after it, which is the
@@ -184,18 +183,10 @@ impl Engine {
         steps: &mut Steps<L>,
     ) -> Result<Prepared, Refusal>
         requires ready { IsReady self.old }
-        ensures ok { IfOk result (AnswersAsModel self.old (Command.Run name.now) self.new) }
-        ensures represents { IfOk result (RepresentsNext self.old (Command.Run name.now) self.new) }
+        ensures ok { IfOk result (Prepares self.old (Command.Run name.now) self.new) }
         ensures refusal { IfErr result (RefusesSoundly self.old (Command.Run name.now)) }
         ensures err { OnErr result (IsUnchangedButHits self.new self.old) }
-        ensures undo { IfOk result (IsUndoable self.old self.new) }
-        ensures ready { OnOk result (IsReady self.new) }
-        ensures running { OnOk result (self.new.stopped ≡ self.old.stopped) }
-        ensures short { IfOk result (λ made. HasShortNames made.reply) }
-        ensures accepted { IfOk result (λ made. is_accepted made.reply ≡ true) }
-        ensures quiet { TakesNoStep self.old (Command.Run name.now) steps.old steps.new }
-        ensures due { TakesRowsDue self.old (Command.Run name.now) steps.old steps.new }
-        ensures most { TakesAtMost self.old (Command.Run name.now) steps.old steps.new }
+        ensures steps { TakesFewSteps self.old (Command.Run name.now) steps.old steps.new }
     {
         let due = self.due_run(alloc, name, steps)?;
         let ordinal = due.runs as u32 + 1;

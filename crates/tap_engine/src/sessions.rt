@@ -5,7 +5,6 @@ ghost use Rattle.std.specs.Result.{result_err};
 ghost use Rattle.tap_base.specs.Numbers.{moment_of};
 ghost use Rattle.tap_base.specs.Names.{is_name};
 ghost use Rattle.script_lang.specs.declared.command.Command.{Command};
-ghost use Rattle.script_lang.specs.Replies.{HasShortNames, is_accepted};
 ghost use Rattle.tap_model.specs.Verdicts.{is_back, bad_name};
 
 use crate::engine::Engine;
@@ -44,23 +43,16 @@ pub(crate) fn refuse_name(name: &[u8]) -> Result<(), Refusal>
 }
 
 impl Engine {
-    ghost use Rattle.tap_engine.specs.Answering.{AnswersAsModel, RepresentsNext, RefusesAsModel};
-    ghost use Rattle.tap_engine.specs.Answering.{IsUndoable};
+    ghost use Rattle.tap_engine.specs.Answering.{Prepares, RefusesAsModel};
     ghost use Rattle.tap_engine.specs.Ready.{IsReady};
 
     // Sets the session's moment, which is never before the last one or, without one, before the
     // greatest stored moment.
     pub(crate) fn at(&mut self, text: &[u8]) -> Result<Prepared, Refusal>
         requires ready { IsReady self.old }
-        ensures ok { IfOk result (AnswersAsModel self.old (Command.At text.now) self.new) }
-        ensures represents { IfOk result (RepresentsNext self.old (Command.At text.now) self.new) }
+        ensures ok { IfOk result (Prepares self.old (Command.At text.now) self.new) }
         ensures refusal { IfErr result (RefusesAsModel self.old (Command.At text.now)) }
         ensures err { OnErr result (self.new ≡ self.old) }
-        ensures undo { IfOk result (IsUndoable self.old self.new) }
-        ensures ready { OnOk result (IsReady self.new) }
-        ensures running { OnOk result (self.new.stopped ≡ self.old.stopped) }
-        ensures short { IfOk result (λ made. HasShortNames made.reply) }
-        ensures accepted { IfOk result (λ made. is_accepted made.reply ≡ true) }
     {
         let Some(second) = second_of(text) else {
             return Err(Refusal::BadMoment);
@@ -73,15 +65,9 @@ impl Engine {
     // Sets the session's user.
     pub(crate) fn as_user(&mut self, name: Text) -> Result<Prepared, Refusal>
         requires ready { IsReady self.old }
-        ensures ok { IfOk result (AnswersAsModel self.old (Command.AsUser name) self.new) }
-        ensures represents { IfOk result (RepresentsNext self.old (Command.AsUser name) self.new) }
+        ensures ok { IfOk result (Prepares self.old (Command.AsUser name) self.new) }
         ensures refusal { IfErr result (RefusesAsModel self.old (Command.AsUser name)) }
         ensures err { OnErr result (self.new ≡ self.old) }
-        ensures undo { IfOk result (IsUndoable self.old self.new) }
-        ensures ready { OnOk result (IsReady self.new) }
-        ensures running { OnOk result (self.new.stopped ≡ self.old.stopped) }
-        ensures short { IfOk result (λ made. HasShortNames made.reply) }
-        ensures accepted { IfOk result (λ made. is_accepted made.reply ≡ true) }
     {
         refuse_name(name.as_slice())?;
         let shown = name.copy()?;

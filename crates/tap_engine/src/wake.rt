@@ -2,7 +2,6 @@
 
 ghost use Rattle.std.specs.Prelude.{◌≡◌, ◌≤◌, ◌+◌, None, Some, true, OnOk, IfOk, IfErr};
 ghost use Rattle.script_lang.specs.declared.command.Command.{Command};
-ghost use Rattle.script_lang.specs.Replies.{HasShortNames, is_accepted};
 ghost use Rattle.tap_base.specs.Names.{is_name};
 
 use crate::engine::Engine;
@@ -12,7 +11,7 @@ use std::sync::ledger::Ledger;
 use tap_base::{Steps, Text};
 
 impl Engine {
-    ghost use Rattle.tap_engine.specs.Answering.{ReadsAsModel, RefusesAsModel};
+    ghost use Rattle.tap_engine.specs.Answering.{IsReplyTo, RefusesAsModel};
     ghost use Rattle.tap_engine.specs.Ready.{IsReady};
     ghost use Rattle.tap_engine.specs.Costs.{TakesAtMost, cached_wake_work};
     ghost use Rattle.tap_engine.specs.Standing.{wake_refusal, cached_named, cached_wake, RefusedBy};
@@ -52,10 +51,8 @@ impl Engine {
         steps: &mut Steps<L>,
     ) -> Result<Reply, Refusal>
         requires ready { IsReady self.now }
-        ensures ok { IfOk result (ReadsAsModel self.now (Command.Wake name)) }
+        ensures ok { IfOk result (IsReplyTo self.now (Command.Wake name)) }
         ensures refusal { IfErr result (RefusesAsModel self.now (Command.Wake name)) }
-        ensures short { IfOk result (λ reply. HasShortNames reply) }
-        ensures accepted { IfOk result (λ reply. is_accepted reply ≡ true) }
         ensures most { TakesAtMost self.now (Command.Wake name) steps.old steps.new }
     {
         let moment = self.wake_named(alloc, name.as_slice(), steps)?;

@@ -22,14 +22,14 @@ pieces-preserved g c =
     let within : c.in-Ok.n ≤ PIECE = grind (arith, c.in-Ok.ensures.bound) in record {
       answering = Answering-more _ _ _ _ c.in-Ok.n c.least-room.result c.ask.new.into _ _ _ _ _ _ _ _ _
           c.pieces.invariant.answering c.pieces-test.true c.in-Ok.ensures.bound.0 c.in-Ok.ensures.bytes.0 c.least-room.ensures
-          c.in-Ok-false.ensures.ok c.in-Ok-false.ensures.next c.in-Ok-false.ensures.quits _
+          c.in-Ok-false.ensures.ok c.in-Ok-false.ensures.next.next c.in-Ok-false.ensures.next.quits _
           c.in-Ok-false.field-0-test c.in-Ok-false.ensures.quit;
       prompt = Answering-asked _ _ _ _ _ _ _ _ _ _ _ _
           c.pieces.invariant.prompt c.pieces.invariant.answering c.pieces-test.true c.in-Ok.ensures.asked;
       few = few-taken _ c.in-Ok.n c.pieces-test.true within;
       ready = c.in-Ok-false.ensures.ready c.in-Ok-false.field-0-test;
       reads = c.in-Ok.ensures.cause.fine ∙ c.pieces.invariant.reads;
-      puts = c.in-Ok-false.ensures.cause.fine ∙ c.pieces.invariant.puts;
+      puts = c.in-Ok-false.ensures.fails.cause.fine ∙ c.pieces.invariant.puts;
     }
 
 pub returns-in-Err-clause-ends : goal.returns-in-Err-clause-ends
@@ -48,7 +48,7 @@ returns-in-Ok-true-clause-ends g c =
     quit-ends _ _ _ _ _ _ _
     (Answering-quit _ _ _ _ c.in-Ok.n c.least-room.result c.ask.new.into _ _ _ _ _ _ _ _
     c.pieces.invariant.answering c.pieces-test.true c.in-Ok.ensures.bound.0 within c.in-Ok.ensures.bytes.0 c.least-room.ensures
-    c.in-Ok-true.ensures.ok c.in-Ok-true.ensures.next (c.in-Ok-true.ensures.over c.in-Ok-true.field-0-test) _
+    c.in-Ok-true.ensures.ok c.in-Ok-true.ensures.next.next (c.in-Ok-true.ensures.over c.in-Ok-true.field-0-test) _
     c.in-Ok-true.field-0-test c.in-Ok-true.ensures.quit)
 
 pub returns-in-Err-take-clause-ends : goal.returns-in-Err-take-clause-ends
@@ -58,7 +58,7 @@ returns-in-Err-take-clause-ends g c =
     (Answering-cut _ _ _ _ c.in-Ok.n c.least-room.result c.ask.new.into _ _ _ _ _ _ _
     c.in-Err-take.field-0 (begun-grows c.args.session.now c.requires.unread c.requires.first c.replies_grow.ensures)
     c.pieces.invariant.answering c.pieces-test.true c.in-Ok.ensures.bound.0 within
-    c.in-Ok.ensures.bytes.0 c.least-room.ensures c.in-Err-take.ensures.err)
+    c.in-Ok.ensures.bytes.0 c.least-room.ensures c.in-Err-take.ensures.fails.err)
 
 pub returns-clause-ends : goal.returns-clause-ends
 returns-clause-ends g c =

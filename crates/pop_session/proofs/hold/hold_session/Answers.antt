@@ -21,7 +21,7 @@ returns-in-Ok-clause-ends g c =
     c.answer_pieces.result []) begun c.answer_pieces.ensures.ends)
 
 pub returns-in-Err-clause-ends : goal.returns-in-Err-clause-ends
-returns-in-Err-clause-ends g c = put-ends _ _ _ _ _ _ greeting (greeting-cut _ _ _ _ _ greeting _ refl c.in-Err.ensures.err)
+returns-in-Err-clause-ends g c = put-ends _ _ _ _ _ _ greeting (greeting-cut _ _ _ _ _ greeting _ refl c.in-Err.ensures.fails.err)
 
 pub returns-in-Ok-clause-prompt : goal.returns-in-Ok-clause-prompt
 returns-in-Ok-clause-prompt g c =

@@ -37,12 +37,16 @@ given_at-requires-clause-second g c =
     subst IsMoment (sym same) (subst InRange is (moment-range c.args.moment.now))
 
 pub returns-clause-ok : goal.returns-clause-ok
-returns-clause-ok g c = λ t represents sound.
-    let is : moment_of c.args.moment.now ≡ Some c.in-Some.second = search rules in
-    let there : c.args.self.now.session.moment ≡ Some c.in-Some-moment.now = search rules in
-    let answers = answers-ask c.args.self.now.session c.args.moment.now c.args.source.now c.in-Some.second c.in-Some-moment.now is there t
-    (condition c.in_ok-cond.cond) c.args.self.now.index c.in_ok-docs.docs c.in_ok-cond.ensures.cond (search rules) represents.rows
-    (search rules) in search (rules, answers)
+returns-clause-ok g c = record {
+  answer = λ t represents sound.
+      let is : moment_of c.args.moment.now ≡ Some c.in-Some.second = search rules in
+      let there : c.args.self.now.session.moment ≡ Some c.in-Some-moment.now = search rules in
+      let answers = answers-ask c.args.self.now.session c.args.moment.now c.args.source.now c.in-Some.second c.in-Some-moment.now is there t
+      (condition c.in_ok-cond.cond) c.args.self.now.index c.in_ok-docs.docs c.in_ok-cond.ensures.cond (search rules) represents.rows
+      (search rules) in search (rules, answers);
+  short = search rules;
+  accepted = search rules;
+}
 
 pub returns-in_err-docs-clause-most : goal.returns-in_err-docs-clause-most
 returns-in_err-docs-clause-most g c =

@@ -11,6 +11,10 @@ returns-in_err-lines-clause-refusal c =
     search (rules, by)
 
 pub returns-clause-ok : goal.returns-clause-ok
-returns-clause-ok c = λ t represents sound. answers-lines c.args.self.now t c.args.name c.in_ok-lines.lines represents
-    (sym (ap (look_refusal c.args.self.now) c.as_slice.ensures) ∙ c.in_ok-lines.ensures.look)
-    (c.in_ok-lines.ensures.lines ∙ ap (λ n. cached_lines (cached_named c.args.self.now n)) c.as_slice.ensures)
+returns-clause-ok c = record {
+  answer = λ t represents sound. answers-lines c.args.self.now t c.args.name c.in_ok-lines.lines represents
+      (sym (ap (look_refusal c.args.self.now) c.as_slice.ensures) ∙ c.in_ok-lines.ensures.look)
+      (c.in_ok-lines.ensures.lines ∙ ap (λ n. cached_lines (cached_named c.args.self.now n)) c.as_slice.ensures);
+  short = search rules;
+  accepted = search rules;
+}

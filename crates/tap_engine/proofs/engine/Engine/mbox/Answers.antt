@@ -29,68 +29,66 @@ returns-in_err-change-clause-refusal c =
     search (rules, by)
 
 pub returns-clause-ok : goal.returns-clause-ok
-returns-clause-ok c = λ t represents sound.
-    let none = sym (mbox-verdict c.args.self.now t c.args.block represents) ∙ c.in_ok-moment.ensures.checks in
-    let first : c.from-first.result + 1 ≡ length c.args.self.now.index.docs + 1 = search rules in
-    let change : c.in_ok-change.change
-    ≡ some_docs (docs_from (length c.args.self.now.index.docs + 1) c.in_ok-moment.moment c.in_ok-moment.texts) = search rules in
-    answers-mbox t c.args.self.now.session c.args.block c.in_ok-moment.texts c.len.result (c.from-first.result + 1)
-    (length c.args.self.now.index.docs) c.in_ok-moment.moment c.in_ok-change.change c.add_docs.new.self.session
-    none c.in_ok-moment.ensures.texts c.in_ok-moment.ensures.moment c.len.ensures (ap length (docs-are represents)) first change
-    (ap (λ e. e.session) c.in_ok-change.ensures.engine)
-
-pub returns-clause-represents : goal.returns-clause-represents
-returns-clause-represents c = λ t represents sound.
-    let change : c.in_ok-change.change
-    ≡ some_docs (docs_from (length c.args.self.now.index.docs + 1) c.in_ok-moment.moment c.in_ok-moment.texts) = search rules in
-    let engine : c.add_docs.new.self ≡ record c.args.self.now {
-      index =
-          after c.args.self.now.index (Docs (docs_from (length c.args.self.now.index.docs + 1) c.in_ok-moment.moment c.in_ok-moment.texts));
-      hits = c.add_docs.new.self.hits;
-      bytes = c.args.self.now.bytes + bytes_of_all c.in_ok-moment.texts;
-    } = search rules in
-    rw change (subst (λ e. Represents e
-    (tables_after (some_docs (docs_from (length c.args.self.now.index.docs + 1) c.in_ok-moment.moment c.in_ok-moment.texts)) t))
-    (sym engine) (represents-more c.args.self.now t c.add_docs.new.self.hits c.in_ok-moment.moment c.in_ok-moment.texts represents
-    (mbox-moment c.args.self.now c.args.block c.in_ok-moment.ensures.checks)))
-
-pub returns-clause-undo : goal.returns-clause-undo
-returns-clause-undo c =
-    let engine : c.add_docs.new.self ≡ record c.args.self.now {
-      index =
-          after c.args.self.now.index (Docs (docs_from (length c.args.self.now.index.docs + 1) c.in_ok-moment.moment c.in_ok-moment.texts));
-      hits = c.add_docs.new.self.hits;
-      bytes = c.args.self.now.bytes + bytes_of_all c.in_ok-moment.texts;
-    } = search rules in
-    some-undo c.in_ok-change.change (subst (λ e. UndoRestores (Rows c.docs.result c.args.self.now.bytes) e c.args.self.now) (sym engine)
-    (undo-docs c.args.self.now (docs_from (length c.args.self.now.index.docs + 1) c.in_ok-moment.moment c.in_ok-moment.texts)
-    c.add_docs.new.self.hits (c.args.self.now.bytes + bytes_of_all c.in_ok-moment.texts)
-    c.docs.result c.docs.ensures.count c.add_docs.ensures.more))
-
-pub returns-clause-ready : goal.returns-clause-ready
-returns-clause-ready c =
-    let engine : c.add_docs.new.self ≡ record c.args.self.now {
-      index =
-          after c.args.self.now.index (Docs (docs_from (length c.args.self.now.index.docs + 1) c.in_ok-moment.moment c.in_ok-moment.texts));
-      hits = c.add_docs.new.self.hits;
-      bytes = c.args.self.now.bytes + bytes_of_all c.in_ok-moment.texts;
-    } = search rules in
-    let room :
-    length (c.args.self.now.index.docs ++ docs_from (length c.args.self.now.index.docs + 1) c.in_ok-moment.moment c.in_ok-moment.texts)
-    ≤ c.add_docs.new.self.hits.room =
-    subst (λ e. length e.index.docs ≤ c.add_docs.new.self.hits.room) engine c.in_ok-change.ensures.room in
-    subst IsReady (sym engine)
-    (subst (λ m. IsReady (record c.args.self.now {
-      index =
-          after c.args.self.now.index (Docs (docs_from (length c.args.self.now.index.docs + 1) m c.in_ok-moment.texts));
-      hits = c.add_docs.new.self.hits;
-      bytes = c.args.self.now.bytes + bytes_of_all c.in_ok-moment.texts;
-    }))
-    (sym c.in_ok-moment.ensures.moment)
-    (ready-docs c.args.self.now c.add_docs.new.self.hits c.in_ok-moment.texts (c.args.self.now.bytes + bytes_of_all c.in_ok-moment.texts)
-    c.requires.ready (mbox-moment c.args.self.now c.args.block c.in_ok-moment.ensures.checks)
-    (subst (λ m. length (c.args.self.now.index.docs ++ docs_from (length c.args.self.now.index.docs + 1) m c.in_ok-moment.texts)
-    ≤ c.add_docs.new.self.hits.room) c.in_ok-moment.ensures.moment room)))
+returns-clause-ok c = record {
+  answer = λ t represents sound.
+      let none = sym (mbox-verdict c.args.self.now t c.args.block represents) ∙ c.in_ok-moment.ensures.checks in
+      let first : c.from-first.result + 1 ≡ length c.args.self.now.index.docs + 1 = search rules in
+      let change : c.in_ok-change.change
+      ≡ some_docs (docs_from (length c.args.self.now.index.docs + 1) c.in_ok-moment.moment c.in_ok-moment.texts) = search rules in
+      answers-mbox t c.args.self.now.session c.args.block c.in_ok-moment.texts c.len.result (c.from-first.result + 1)
+      (length c.args.self.now.index.docs) c.in_ok-moment.moment c.in_ok-change.change c.add_docs.new.self.session
+      none c.in_ok-moment.ensures.texts c.in_ok-moment.ensures.moment c.len.ensures (ap length (docs-are represents)) first change
+      (ap (λ e. e.session) c.in_ok-change.ensures.engine);
+  represents = λ t represents sound.
+      let change : c.in_ok-change.change
+      ≡ some_docs (docs_from (length c.args.self.now.index.docs + 1) c.in_ok-moment.moment c.in_ok-moment.texts) = search rules in
+      let engine : c.add_docs.new.self ≡ record c.args.self.now {
+        index =
+            after c.args.self.now.index
+            (Docs (docs_from (length c.args.self.now.index.docs + 1) c.in_ok-moment.moment c.in_ok-moment.texts));
+        hits = c.add_docs.new.self.hits;
+        bytes = c.args.self.now.bytes + bytes_of_all c.in_ok-moment.texts;
+      } = search rules in
+      rw change (subst (λ e. Represents e
+      (tables_after (some_docs (docs_from (length c.args.self.now.index.docs + 1) c.in_ok-moment.moment c.in_ok-moment.texts)) t))
+      (sym engine) (represents-more c.args.self.now t c.add_docs.new.self.hits c.in_ok-moment.moment c.in_ok-moment.texts represents
+      (mbox-moment c.args.self.now c.args.block c.in_ok-moment.ensures.checks)));
+  undo = let engine : c.add_docs.new.self ≡ record c.args.self.now {
+    index =
+        after c.args.self.now.index (Docs (docs_from (length c.args.self.now.index.docs + 1) c.in_ok-moment.moment c.in_ok-moment.texts));
+    hits = c.add_docs.new.self.hits;
+    bytes = c.args.self.now.bytes + bytes_of_all c.in_ok-moment.texts;
+  } = search rules in
+      some-undo c.in_ok-change.change (subst (λ e. UndoRestores (Rows c.docs.result c.args.self.now.bytes) e c.args.self.now) (sym engine)
+      (undo-docs c.args.self.now (docs_from (length c.args.self.now.index.docs + 1) c.in_ok-moment.moment c.in_ok-moment.texts)
+      c.add_docs.new.self.hits (c.args.self.now.bytes + bytes_of_all c.in_ok-moment.texts)
+      c.docs.result c.docs.ensures.count c.add_docs.ensures.more));
+  ready = let engine : c.add_docs.new.self ≡ record c.args.self.now {
+    index =
+        after c.args.self.now.index (Docs (docs_from (length c.args.self.now.index.docs + 1) c.in_ok-moment.moment c.in_ok-moment.texts));
+    hits = c.add_docs.new.self.hits;
+    bytes = c.args.self.now.bytes + bytes_of_all c.in_ok-moment.texts;
+  } = search rules in
+      let room :
+      length (c.args.self.now.index.docs ++ docs_from (length c.args.self.now.index.docs + 1) c.in_ok-moment.moment c.in_ok-moment.texts)
+      ≤ c.add_docs.new.self.hits.room =
+      subst (λ e. length e.index.docs ≤ c.add_docs.new.self.hits.room) engine c.in_ok-change.ensures.room in
+      subst IsReady (sym engine)
+      (subst (λ m. IsReady (record c.args.self.now {
+        index =
+            after c.args.self.now.index (Docs (docs_from (length c.args.self.now.index.docs + 1) m c.in_ok-moment.texts));
+        hits = c.add_docs.new.self.hits;
+        bytes = c.args.self.now.bytes + bytes_of_all c.in_ok-moment.texts;
+      }))
+      (sym c.in_ok-moment.ensures.moment)
+      (ready-docs c.args.self.now c.add_docs.new.self.hits c.in_ok-moment.texts (c.args.self.now.bytes + bytes_of_all c.in_ok-moment.texts)
+      c.requires.ready (mbox-moment c.args.self.now c.args.block c.in_ok-moment.ensures.checks)
+      (subst (λ m. length (c.args.self.now.index.docs ++ docs_from (length c.args.self.now.index.docs + 1) m c.in_ok-moment.texts)
+      ≤ c.add_docs.new.self.hits.room) c.in_ok-moment.ensures.moment room)));
+  running = search rules;
+  short = search rules;
+  accepted = search rules;
+}
 
 pub add_docs-requires-clause-arrives : goal.add_docs-requires-clause-arrives
 add_docs-requires-clause-arrives c =

@@ -26,43 +26,40 @@ returns-in_err-change-clause-refusal c =
     search (rules, by)
 
 pub returns-clause-ok : goal.returns-clause-ok
-returns-clause-ok c = λ t represents sound.
-    let none = sym (note-verdict c.args.self.now t c.args.doc c.args.kind c.args.value c.args.text represents)
-    ∙ c.in_ok-note.ensures.checks in
-    let answers =
-    answers-note t c.args.self.now.session c.args.doc c.args.kind c.args.value c.args.text (length c.args.self.now.index.notes)
-    c.in_ok-note.note c.in_ok-change.change c.add_note.new.self.session none (ap length (notes-are represents))
-    (c.in_ok-note.ensures.row ∙ ap (λ v. record {
-      num = record { 0 = length c.args.self.now.index.notes + 1 };
-      doc = record { 0 = c.args.doc };
-      author = user_of c.args.self.now.session;
-      kind = c.args.kind;
-      value = v;
-      arrival = moment_or_zero c.args.self.now.session;
-      text = c.args.text;
-    }) (to_z-of_z w64 c.args.value c.ranges.value))
-    c.in_ok-change.ensures.change (ap (λ e. e.session) c.in_ok-change.ensures.engine) in search (rules, answers)
-
-pub returns-clause-represents : goal.returns-clause-represents
-returns-clause-represents c = λ t represents sound.
-    rw (c.in_ok-change.ensures.engine, c.in_ok-change.ensures.change)
-    (represents-note c.args.self.now t c.in_ok-note.note represents
-    (note-moment c.args.self.now c.args.doc c.args.kind c.args.text c.in_ok-note.ensures.checks))
-
-pub returns-clause-undo : goal.returns-clause-undo
-returns-clause-undo c =
-    let before = c.args.self.now in
-    let note = c.in_ok-note.note in
-    let vote = c.in_ok-change.vote in
-    let back = subst (λ (e : Engine). CanUndoVote vote e.votes × (without_vote vote e.votes ≡ before.votes))
-    c.in_ok-change.ensures.engine c.in_ok-change.ensures.vote in
-    rw c.in_ok-change.ensures.engine (undo-note before note _ vote (with_vote note before.votes) back.0 back.1)
-
-pub returns-clause-ready : goal.returns-clause-ready
-returns-clause-ready c =
-    rw c.in_ok-change.ensures.engine (ready-note c.args.self.now c.in_ok-note.note (with_vote c.in_ok-note.note c.args.self.now.votes)
-    (c.args.self.now.bytes + length c.in_ok-note.note.text) c.requires.ready (ap (λ n. n.arrival) c.in_ok-note.ensures.row)
-    (note-moment c.args.self.now c.args.doc c.args.kind c.args.text c.in_ok-note.ensures.checks))
+returns-clause-ok c = record {
+  answer = λ t represents sound.
+      let none = sym (note-verdict c.args.self.now t c.args.doc c.args.kind c.args.value c.args.text represents)
+      ∙ c.in_ok-note.ensures.checks in
+      let answers =
+      answers-note t c.args.self.now.session c.args.doc c.args.kind c.args.value c.args.text (length c.args.self.now.index.notes)
+      c.in_ok-note.note c.in_ok-change.change c.add_note.new.self.session none (ap length (notes-are represents))
+      (c.in_ok-note.ensures.row ∙ ap (λ v. record {
+        num = record { 0 = length c.args.self.now.index.notes + 1 };
+        doc = record { 0 = c.args.doc };
+        author = user_of c.args.self.now.session;
+        kind = c.args.kind;
+        value = v;
+        arrival = moment_or_zero c.args.self.now.session;
+        text = c.args.text;
+      }) (to_z-of_z w64 c.args.value c.ranges.value))
+      c.in_ok-change.ensures.change (ap (λ e. e.session) c.in_ok-change.ensures.engine) in search (rules, answers);
+  represents = λ t represents sound.
+      rw (c.in_ok-change.ensures.engine, c.in_ok-change.ensures.change)
+      (represents-note c.args.self.now t c.in_ok-note.note represents
+      (note-moment c.args.self.now c.args.doc c.args.kind c.args.text c.in_ok-note.ensures.checks));
+  undo = let before = c.args.self.now in
+      let note = c.in_ok-note.note in
+      let vote = c.in_ok-change.vote in
+      let back = subst (λ (e : Engine). CanUndoVote vote e.votes × (without_vote vote e.votes ≡ before.votes))
+      c.in_ok-change.ensures.engine c.in_ok-change.ensures.vote in
+      rw c.in_ok-change.ensures.engine (undo-note before note _ vote (with_vote note before.votes) back.0 back.1);
+  ready = rw c.in_ok-change.ensures.engine (ready-note c.args.self.now c.in_ok-note.note (with_vote c.in_ok-note.note c.args.self.now.votes)
+      (c.args.self.now.bytes + length c.in_ok-note.note.text) c.requires.ready (ap (λ n. n.arrival) c.in_ok-note.ensures.row)
+      (note-moment c.args.self.now c.args.doc c.args.kind c.args.text c.in_ok-note.ensures.checks));
+  running = search rules;
+  short = search rules;
+  accepted = search rules;
+}
 
 pub add_note-requires-clause-arrives : goal.add_note-requires-clause-arrives
 add_note-requires-clause-arrives c =

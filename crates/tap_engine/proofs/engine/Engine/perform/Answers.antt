@@ -8,14 +8,14 @@ use Rattle.tap_engine.proofs.PerformLaws.{refused-gives, fault-represents, fault
 use Rattle.tap_engine.proofs.engine.Engine.perform.Goals as goal
 
 pub returns-in_default-clause-halted : goal.returns-in_default-clause-halted
-returns-in_default-clause-halted g c = c.in-Ok.ensures.running ∙ c.requires.running ∙ sym c.requires.attached.running
+returns-in_default-clause-halted g c = c.in-Ok.ensures.ok.running ∙ c.requires.running ∙ sym c.requires.attached.running
 
 pub returns-in-Ok-commit-clause-kept : goal.returns-in-Ok-commit-clause-kept
 returns-in-Ok-commit-clause-kept g c = λ t represents sound honest holds.
     let answers :
     Answers t c.args.self.now.session c.args.command c.in-Ok.prepared.reply (Some c.in-Some.change) c.prepare.new.self.session =
     subst (λ change. Answers t c.args.self.now.session c.args.command c.in-Ok.prepared.reply change c.prepare.new.self.session)
-    c.in-Some.is (c.in-Ok.ensures.ok t represents sound) in
+    c.in-Some.is (c.in-Ok.ensures.ok.answer t represents sound) in
     subst (IsDurable (g.P.Keeper.tells c.commit.new.self) (g.P.Keeper.may_leave c.commit.new.self))
     (rows-next t c.args.self.now.session c.args.command c.in-Ok.prepared.reply c.in-Some.change c.prepare.new.self.session answers)
     (c.in-Ok-commit.ensures.ok honest t holds.told
@@ -26,9 +26,9 @@ returns-in-Err-commit-clause-step g c = λ t represents sound.
     let answers :
     Answers t c.args.self.now.session c.args.command c.in-Ok.prepared.reply (Some c.in-Some.change) c.prepare.new.self.session =
     subst (λ change. Answers t c.args.self.now.session c.args.command c.in-Ok.prepared.reply change c.prepare.new.self.session)
-    c.in-Some.is (c.in-Ok.ensures.ok t represents sound) in
+    c.in-Some.is (c.in-Ok.ensures.ok.answer t represents sound) in
     let takes = taken-there c.in-Ok.prepared.undo c.prepare.new.self c.args.self.now c.in-Ok.prepared.change c.in-Some.change c.in-Some.is
-    c.in-Ok.ensures.undo in
+    c.in-Ok.ensures.ok.undo in
     fault-step c.in-Err-commit.fault t c.args.self.now c.undo_rows.new.self c.not_committed.new.self c.args.command c.not_committed.result
     c.not_committed.ensures.0 c.not_committed.ensures.1 (ap (λ e. e.session) (c.undo_rows.ensures ∙ takes.before_is.same))
     (memory-step t c.args.self.now.session c.args.command c.in-Ok.prepared.reply c.in-Some.change c.prepare.new.self.session answers)
@@ -38,7 +38,7 @@ returns-in-Err-commit-clause-crash g c = λ t represents sound honest holds.
     let answers :
     Answers t c.args.self.now.session c.args.command c.in-Ok.prepared.reply (Some c.in-Some.change) c.prepare.new.self.session =
     subst (λ change. Answers t c.args.self.now.session c.args.command c.in-Ok.prepared.reply change c.prepare.new.self.session)
-    c.in-Some.is (c.in-Ok.ensures.ok t represents sound) in
+    c.in-Some.is (c.in-Ok.ensures.ok.answer t represents sound) in
     let fit = rows-fit t c.args.self.now.session c.args.command c.in-Ok.prepared.reply c.in-Some.change c.prepare.new.self.session sound
     answers in
     on-err c.not_committed.result (
@@ -52,7 +52,7 @@ returns-in-Err-commit-clause-adds g c = λ t represents sound.
     let answers :
     Answers t c.args.self.now.session c.args.command c.in-Ok.prepared.reply (Some c.in-Some.change) c.prepare.new.self.session =
     subst (λ change. Answers t c.args.self.now.session c.args.command c.in-Ok.prepared.reply change c.prepare.new.self.session)
-    c.in-Some.is (c.in-Ok.ensures.ok t represents sound) in
+    c.in-Some.is (c.in-Ok.ensures.ok.answer t represents sound) in
     let adds : AddsRows c.args.command c.args.self.now.session t =
     record { change = c.in-Some.change; change_is = sym answers.change_is } in
     on-err c.not_committed.result adds
@@ -66,7 +66,7 @@ returns-in-Err-commit-clause-kept g c = λ t represents sound honest holds.
 pub returns-in-Err-commit-clause-represents : goal.returns-in-Err-commit-clause-represents
 returns-in-Err-commit-clause-represents g c = λ t represents sound.
     let takes = taken-there c.in-Ok.prepared.undo c.prepare.new.self c.args.self.now c.in-Ok.prepared.change c.in-Some.change c.in-Some.is
-    c.in-Ok.ensures.undo in
+    c.in-Ok.ensures.ok.undo in
     fault-represents c.in-Err-commit.fault t c.args.self.now c.undo_rows.new.self c.not_committed.new.self c.args.command
     c.not_committed.result c.not_committed.ensures.0 c.not_committed.ensures.1
     (subst (λ k. IsUnchangedButHits k c.args.self.now) (sym c.undo_rows.ensures) takes.before_is) represents
@@ -76,7 +76,7 @@ returns-in-Ok-commit-clause-version g c = λ t represents sound honest told runn
     let answers :
     Answers t c.args.self.now.session c.args.command c.in-Ok.prepared.reply (Some c.in-Some.change) c.prepare.new.self.session =
     subst (λ change. Answers t c.args.self.now.session c.args.command c.in-Ok.prepared.reply change c.prepare.new.self.session)
-    c.in-Some.is (c.in-Ok.ensures.ok t represents sound) in
+    c.in-Some.is (c.in-Ok.ensures.ok.answer t represents sound) in
     let fit = rows-fit t c.args.self.now.session c.args.command c.in-Ok.prepared.reply c.in-Some.change c.prepare.new.self.session sound
     answers in
     c.in-Ok-commit.ensures.version honest t told fit version has running
@@ -86,7 +86,7 @@ returns-in-Err-commit-clause-version g c = λ t represents sound honest told run
     let answers :
     Answers t c.args.self.now.session c.args.command c.in-Ok.prepared.reply (Some c.in-Some.change) c.prepare.new.self.session =
     subst (λ change. Answers t c.args.self.now.session c.args.command c.in-Ok.prepared.reply change c.prepare.new.self.session)
-    c.in-Some.is (c.in-Ok.ensures.ok t represents sound) in
+    c.in-Some.is (c.in-Ok.ensures.ok.answer t represents sound) in
     let fit = rows-fit t c.args.self.now.session c.args.command c.in-Ok.prepared.reply c.in-Some.change c.prepare.new.self.session sound
     answers in
     c.in-Err-commit.ensures.version honest t told fit version has running
@@ -99,21 +99,21 @@ returns-in-Err-clause-memory g c = λ t represents sound proper no_18.
 pub returns-in_default-clause-memory : goal.returns-in_default-clause-memory
 returns-in_default-clause-memory g c = λ t represents sound proper no_18.
     absurd (prepared-apart t c.args.self.now.session c.args.command c.in-Ok.prepared.reply c.in-Ok.prepared.change
-    c.prepare.new.self.session proper (c.in-Ok.ensures.ok t represents sound) no_18)
+    c.prepare.new.self.session proper (c.in-Ok.ensures.ok.answer t represents sound) no_18)
 
 pub returns-in-Ok-commit-clause-memory : goal.returns-in-Ok-commit-clause-memory
 returns-in-Ok-commit-clause-memory g c = λ t represents sound proper no_18.
     absurd (prepared-apart t c.args.self.now.session c.args.command c.in-Ok.prepared.reply c.in-Ok.prepared.change
-    c.prepare.new.self.session proper (c.in-Ok.ensures.ok t represents sound) no_18)
+    c.prepare.new.self.session proper (c.in-Ok.ensures.ok.answer t represents sound) no_18)
 
 pub returns-in-Err-commit-clause-memory : goal.returns-in-Err-commit-clause-memory
 returns-in-Err-commit-clause-memory g c = λ t represents sound proper.
     let answers :
     Answers t c.args.self.now.session c.args.command c.in-Ok.prepared.reply (Some c.in-Some.change) c.prepare.new.self.session =
     subst (λ change. Answers t c.args.self.now.session c.args.command c.in-Ok.prepared.reply change c.prepare.new.self.session)
-    c.in-Some.is (c.in-Ok.ensures.ok t represents sound) in
+    c.in-Some.is (c.in-Ok.ensures.ok.answer t represents sound) in
     let takes = taken-there c.in-Ok.prepared.undo c.prepare.new.self c.args.self.now c.in-Ok.prepared.change c.in-Some.change c.in-Some.is
-    c.in-Ok.ensures.undo in
+    c.in-Ok.ensures.ok.undo in
     fault-gives c.in-Err-commit.fault t c.args.self.now c.undo_rows.new.self c.not_committed.new.self c.args.command c.not_committed.result
     c.not_committed.ensures.0 c.not_committed.ensures.1 (ap (λ e. e.session) (c.undo_rows.ensures ∙ takes.before_is.same))
     (memory-gives t c.args.self.now.session c.args.command c.in-Ok.prepared.reply c.in-Some.change c.prepare.new.self.session answers)
@@ -123,10 +123,10 @@ returns-in-Err-clause-untouched g c = λ refused honest t tells.
     record { told = tells; exact = λ x leaves. g.met.P.Keeper.exact c.args.keeper.now t x honest c.requires.attached.running tells leaves }
 
 pub returns-in_default-clause-untouched : goal.returns-in_default-clause-untouched
-returns-in_default-clause-untouched g c = λ refused. absurd (false≢true (sym refused ∙ c.in-Ok.ensures.accepted))
+returns-in_default-clause-untouched g c = λ refused. absurd (false≢true (sym refused ∙ c.in-Ok.ensures.ok.accepted))
 
 pub returns-in-Ok-commit-clause-untouched : goal.returns-in-Ok-commit-clause-untouched
-returns-in-Ok-commit-clause-untouched g c = λ refused. absurd (false≢true (sym refused ∙ c.in-Ok.ensures.accepted))
+returns-in-Ok-commit-clause-untouched g c = λ refused. absurd (false≢true (sym refused ∙ c.in-Ok.ensures.ok.accepted))
 
 pub returns-in-Err-commit-clause-untouched : goal.returns-in-Err-commit-clause-untouched
 returns-in-Err-commit-clause-untouched g c =

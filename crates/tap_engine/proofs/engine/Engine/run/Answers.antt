@@ -95,91 +95,96 @@ returns-in_err-change-clause-err g c =
     search (rules, by)
 
 pub returns-clause-ok : goal.returns-clause-ok
-returns-clause-ok g c = λ t represents sound-for.
-    let e = c.args.self.now in
-    let sound = sound-asked (Run c.args.name.now) t e.session refl sound-for in
-    let due = c.in_ok-due.due in
-    let same = c.due_run.ensures.still.same in
-    let none = sym (run-verdict e t c.args.name.now represents sound) ∙ c.in_ok-due.ensures.verdict in
-    let d = due-is e t c.args.name.now due represents sound (run-moment e c.args.name.now c.in_ok-due.ensures.verdict)
-    c.in_ok-due.ensures.due in
-    let raw : c.in_ok-change.change ≡ run_rows c.due_run.new.self.run_count c.due_run.new.self.pick_count due = search rules in
-    let change : c.in_ok-change.change ≡ run_rows e.run_count e.pick_count due = raw
-    ∙ ap (λ k. run_rows k.run_count k.pick_count due) same in
-    let answers = answers-run e t c.args.name.now due c.in_ok-change.change c.deliver.new.self.session represents none d change
-    (ap (λ k. k.session) (c.in_ok-change.ensures.engine (never_run d.q)) ∙ ap (λ k. k.session) same) in
-    search (rules, answers)
+returns-clause-ok g c = record {
+  answer = λ t represents sound-for.
+      let e = c.args.self.now in
+      let sound = sound-asked (Run c.args.name.now) t e.session refl sound-for in
+      let due = c.in_ok-due.due in
+      let same = c.due_run.ensures.still.same in
+      let none = sym (run-verdict e t c.args.name.now represents sound) ∙ c.in_ok-due.ensures.verdict in
+      let d = due-is e t c.args.name.now due represents sound (run-moment e c.args.name.now c.in_ok-due.ensures.verdict)
+      c.in_ok-due.ensures.due in
+      let raw : c.in_ok-change.change ≡ run_rows c.due_run.new.self.run_count c.due_run.new.self.pick_count due = search rules in
+      let change : c.in_ok-change.change ≡ run_rows e.run_count e.pick_count due = raw
+      ∙ ap (λ k. run_rows k.run_count k.pick_count due) same in
+      let answers = answers-run e t c.args.name.now due c.in_ok-change.change c.deliver.new.self.session represents none d change
+      (ap (λ k. k.session) (c.in_ok-change.ensures.engine (never_run d.q)) ∙ ap (λ k. k.session) same) in
+      search (rules, answers);
+  represents = λ t represents sound-for.
+      let e = c.args.self.now in
+      let sound = sound-asked (Run c.args.name.now) t e.session refl sound-for in
+      let due = c.in_ok-due.due in
+      let next : Engine → CachedQuery → Engine = λ k x. record k {
+        queries = slice_set k.queries (due.query.0 - 1)
+            (after_run due.moment (map (entry_at (due.runs + 1)) due.hits) (slice_index_or k.queries (due.query.0 - 1) x));
+        run_count = k.run_count + 1;
+        pick_count = k.pick_count + length due.hits;
+      } in
+      let same = c.due_run.ensures.still.same in
+      let there = run-moment e c.args.name.now c.in_ok-due.ensures.verdict in
+      let d = due-is e t c.args.name.now due represents sound there c.in_ok-due.ensures.due in
+      let raw-change : c.in_ok-change.change ≡ run_rows c.due_run.new.self.run_count c.due_run.new.self.pick_count due = search rules in
+      let change : c.in_ok-change.change ≡ run_rows e.run_count e.pick_count due = raw-change
+      ∙ ap (λ k. run_rows k.run_count k.pick_count due) same in
+      let raw : (x : CachedQuery) → c.deliver.new.self ≡ next c.due_run.new.self x = search rules in
+      subst (λ change. Represents c.deliver.new.self (after t change)) (sym change)
+      (represents-run e t c.args.name.now due c.due_run.new.self.hits c.deliver.new.self represents sound.kept d there (λ x. raw x
+      ∙ ap (λ k. next k x) same));
+  undo = let e = c.args.self.now in
+      let due = c.in_ok-due.due in
+      let next : Engine → CachedQuery → Engine = λ k x. record k {
+        queries = slice_set k.queries (due.query.0 - 1)
+            (after_run due.moment (map (entry_at (due.runs + 1)) due.hits) (slice_index_or k.queries (due.query.0 - 1) x));
+        run_count = k.run_count + 1;
+        pick_count = k.pick_count + length due.hits;
+      } in
+      let raw : (x : CachedQuery) → c.deliver.new.self ≡ next c.due_run.new.self x = search rules in
+      let same = c.due_run.ensures.still.same in
+      let d = due-at e c.args.name.now due c.requires.ready c.in_ok-due.ensures.due in
+      let place : due.query.0 - 1 < length e.queries = omega (arith, ap (λ x. x.query.0) d.is, d.at.low, d.at.high) in
+      subst (λ undo. UndoRestores undo c.deliver.new.self e) (sym (c.undo_run-undo.ensures d.kept
+      ∙ ap (λ k. undo_run k (due.query.0 - 1) (slice_index_or k.queries (due.query.0 - 1) d.kept)) same))
+      (undo-run e c.deliver.new.self c.due_run.new.self.hits (due.query.0 - 1) due.moment (map (entry_at (due.runs + 1)) due.hits)
+      (e.run_count + 1) (e.pick_count + length due.hits) d.kept place c.due_run.ensures.still.room
+      (raw d.kept ∙ ap (λ k. next k d.kept) same));
+  ready = let e = c.args.self.now in
+      let due = c.in_ok-due.due in
+      let same = c.due_run.ensures.still.same in
+      let d = due-at e c.args.name.now due c.requires.ready c.in_ok-due.ensures.due in
+      let moment : IsMoment due.moment = subst IsMoment (sym (ap (λ x. x.moment) d.is))
+      (moment_or_zero-moment e c.requires.ready (run-moment e c.args.name.now c.in_ok-due.ensures.verdict)) in
+      let ready : IsReady c.due_run.new.self = ready-still e c.due_run.new.self c.requires.ready c.due_run.ensures.still in
+      subst IsReady (sym (c.in_ok-change.ensures.engine d.kept)) (record {
+        docs = ready.docs;
+        notes = ready.notes;
+        queries = kept-run 1 c.due_run.new.self.run_count (due.query.0 - 1) c.due_run.new.self.queries _ _
+            d.kept ready.queries (search (rules, moment));
+        moment = ready.moment;
+        room = ready.room;
+      });
+  running = let d = due-at c.args.self.now c.args.name.now c.in_ok-due.due c.requires.ready c.in_ok-due.ensures.due in
+      ap (λ e. e.stopped) (c.in_ok-change.ensures.engine d.kept) ∙ ap (λ e. e.stopped) c.due_run.ensures.still.same;
+  short = search rules;
+  accepted = search rules;
+}
 
-pub returns-clause-represents : goal.returns-clause-represents
-returns-clause-represents g c = λ t represents sound-for.
-    let e = c.args.self.now in
-    let sound = sound-asked (Run c.args.name.now) t e.session refl sound-for in
-    let due = c.in_ok-due.due in
-    let next : Engine → CachedQuery → Engine = λ k x. record k {
-      queries = slice_set k.queries (due.query.0 - 1)
-          (after_run due.moment (map (entry_at (due.runs + 1)) due.hits) (slice_index_or k.queries (due.query.0 - 1) x));
-      run_count = k.run_count + 1;
-      pick_count = k.pick_count + length due.hits;
-    } in
-    let same = c.due_run.ensures.still.same in
-    let there = run-moment e c.args.name.now c.in_ok-due.ensures.verdict in
-    let d = due-is e t c.args.name.now due represents sound there c.in_ok-due.ensures.due in
-    let raw-change : c.in_ok-change.change ≡ run_rows c.due_run.new.self.run_count c.due_run.new.self.pick_count due = search rules in
-    let change : c.in_ok-change.change ≡ run_rows e.run_count e.pick_count due = raw-change
-    ∙ ap (λ k. run_rows k.run_count k.pick_count due) same in
-    let raw : (x : CachedQuery) → c.deliver.new.self ≡ next c.due_run.new.self x = search rules in
-    subst (λ change. Represents c.deliver.new.self (after t change)) (sym change)
-    (represents-run e t c.args.name.now due c.due_run.new.self.hits c.deliver.new.self represents sound.kept d there (λ x. raw x
-    ∙ ap (λ k. next k x) same))
+pub returns-in_err-due-clause-steps : goal.returns-in_err-due-clause-steps
+returns-in_err-due-clause-steps g c = record {
+  quiet = search rules;
+  due = search rules;
+  most = most-run c.args.self.now c.args.name.now c.due_run.new.steps c.args.steps.now c.due_run.ensures.most;
+}
 
-pub returns-clause-undo : goal.returns-clause-undo
-returns-clause-undo g c =
-    let e = c.args.self.now in
-    let due = c.in_ok-due.due in
-    let next : Engine → CachedQuery → Engine = λ k x. record k {
-      queries = slice_set k.queries (due.query.0 - 1)
-          (after_run due.moment (map (entry_at (due.runs + 1)) due.hits) (slice_index_or k.queries (due.query.0 - 1) x));
-      run_count = k.run_count + 1;
-      pick_count = k.pick_count + length due.hits;
-    } in
-    let raw : (x : CachedQuery) → c.deliver.new.self ≡ next c.due_run.new.self x = search rules in
-    let same = c.due_run.ensures.still.same in
-    let d = due-at e c.args.name.now due c.requires.ready c.in_ok-due.ensures.due in
-    let place : due.query.0 - 1 < length e.queries = omega (arith, ap (λ x. x.query.0) d.is, d.at.low, d.at.high) in
-    subst (λ undo. UndoRestores undo c.deliver.new.self e) (sym (c.undo_run-undo.ensures d.kept
-    ∙ ap (λ k. undo_run k (due.query.0 - 1) (slice_index_or k.queries (due.query.0 - 1) d.kept)) same))
-    (undo-run e c.deliver.new.self c.due_run.new.self.hits (due.query.0 - 1) due.moment (map (entry_at (due.runs + 1)) due.hits)
-    (e.run_count + 1) (e.pick_count + length due.hits) d.kept place c.due_run.ensures.still.room
-    (raw d.kept ∙ ap (λ k. next k d.kept) same))
+pub returns-in_err-change-clause-steps : goal.returns-in_err-change-clause-steps
+returns-in_err-change-clause-steps g c = record {
+  quiet = search rules;
+  due = search rules;
+  most = most-run c.args.self.now c.args.name.now c.due_run.new.steps c.args.steps.now c.due_run.ensures.most;
+}
 
-pub returns-clause-ready : goal.returns-clause-ready
-returns-clause-ready g c =
-    let e = c.args.self.now in
-    let due = c.in_ok-due.due in
-    let same = c.due_run.ensures.still.same in
-    let d = due-at e c.args.name.now due c.requires.ready c.in_ok-due.ensures.due in
-    let moment : IsMoment due.moment = subst IsMoment (sym (ap (λ x. x.moment) d.is))
-    (moment_or_zero-moment e c.requires.ready (run-moment e c.args.name.now c.in_ok-due.ensures.verdict)) in
-    let ready : IsReady c.due_run.new.self = ready-still e c.due_run.new.self c.requires.ready c.due_run.ensures.still in
-    subst IsReady (sym (c.in_ok-change.ensures.engine d.kept)) (record {
-      docs = ready.docs;
-      notes = ready.notes;
-      queries = kept-run 1 c.due_run.new.self.run_count (due.query.0 - 1) c.due_run.new.self.queries _ _
-          d.kept ready.queries (search (rules, moment));
-      moment = ready.moment;
-      room = ready.room;
-    })
-
-pub returns-clause-running : goal.returns-clause-running
-returns-clause-running g c =
-    let d = due-at c.args.self.now c.args.name.now c.in_ok-due.due c.requires.ready c.in_ok-due.ensures.due in
-    ap (λ e. e.stopped) (c.in_ok-change.ensures.engine d.kept) ∙ ap (λ e. e.stopped) c.due_run.ensures.still.same
-
-pub returns-in_err-due-clause-most : goal.returns-in_err-due-clause-most
-returns-in_err-due-clause-most g c = most-run c.args.self.now c.args.name.now c.due_run.new.steps c.args.steps.now c.due_run.ensures.most
-
-pub returns-in_err-change-clause-most : goal.returns-in_err-change-clause-most
-returns-in_err-change-clause-most g c = most-run c.args.self.now c.args.name.now c.due_run.new.steps c.args.steps.now c.due_run.ensures.most
-
-pub returns-clause-most : goal.returns-clause-most
-returns-clause-most g c = most-run c.args.self.now c.args.name.now c.due_run.new.steps c.args.steps.now c.due_run.ensures.most
+pub returns-clause-steps : goal.returns-clause-steps
+returns-clause-steps g c = record {
+  quiet = search rules;
+  due = search rules;
+  most = most-run c.args.self.now c.args.name.now c.due_run.new.steps c.args.steps.now c.due_run.ensures.most;
+}

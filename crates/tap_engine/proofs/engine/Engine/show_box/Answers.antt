@@ -10,6 +10,10 @@ returns-in_err-entries-clause-refusal c =
     search (rules, by)
 
 pub returns-clause-ok : goal.returns-clause-ok
-returns-clause-ok c = λ t represents sound. answers-box c.args.self.now t c.args.name c.in_ok-entries.entries represents sound
-    (sym (ap (look_refusal c.args.self.now) c.as_slice.ensures) ∙ c.in_ok-entries.ensures.look)
-    (c.in_ok-entries.ensures.entries ∙ ap (λ n. cached_entries (cached_named c.args.self.now n)) c.as_slice.ensures)
+returns-clause-ok c = record {
+  answer = λ t represents sound. answers-box c.args.self.now t c.args.name c.in_ok-entries.entries represents sound
+      (sym (ap (look_refusal c.args.self.now) c.as_slice.ensures) ∙ c.in_ok-entries.ensures.look)
+      (c.in_ok-entries.ensures.entries ∙ ap (λ n. cached_entries (cached_named c.args.self.now n)) c.as_slice.ensures);
+  short = search rules;
+  accepted = search rules;
+}

@@ -14,11 +14,14 @@ returns-in_err-lines-clause-refusal g c =
     search (rules, by)
 
 pub returns-clause-ok : goal.returns-clause-ok
-returns-clause-ok g c =
-    λ t represents sound. answers-digest c.args.self.now t c.args.name c.args.ordinal c.in_ok-lines.lines represents sound
-    (sym (ap (λ n. digest_refusal c.args.self.now n c.args.ordinal) c.as_slice.ensures) ∙ c.in_ok-lines.ensures.look)
-    (c.in_ok-lines.ensures.lines
-    ∙ ap (λ n. cached_digest c.args.self.now n c.args.ordinal (cached_named c.args.self.now n)) c.as_slice.ensures)
+returns-clause-ok g c = record {
+  answer = λ t represents sound. answers-digest c.args.self.now t c.args.name c.args.ordinal c.in_ok-lines.lines represents sound
+      (sym (ap (λ n. digest_refusal c.args.self.now n c.args.ordinal) c.as_slice.ensures) ∙ c.in_ok-lines.ensures.look)
+      (c.in_ok-lines.ensures.lines
+      ∙ ap (λ n. cached_digest c.args.self.now n c.args.ordinal (cached_named c.args.self.now n)) c.as_slice.ensures);
+  short = search rules;
+  accepted = search rules;
+}
 
 pub returns-in_err-lines-clause-most : goal.returns-in_err-lines-clause-most
 returns-in_err-lines-clause-most g c = most-digest c.args.self.now c.args.name c.args.ordinal c.digest_named.new.steps c.args.steps.now

@@ -13,9 +13,13 @@ returns-in_err-rows-clause-refusal g c =
     search (rules, by)
 
 pub returns-clause-ok : goal.returns-clause-ok
-returns-clause-ok g c = λ t represents sound. answers-list c.args.self.now t c.args.name c.in_ok-rows.rows represents sound
-    (sym (ap (look_refusal c.args.self.now) c.as_slice.ensures) ∙ c.in_ok-rows.ensures.look)
-    (c.in_ok-rows.ensures.rows ∙ ap (λ n. cached_rows c.args.self.now (cached_named c.args.self.now n)) c.as_slice.ensures)
+returns-clause-ok g c = record {
+  answer = λ t represents sound. answers-list c.args.self.now t c.args.name c.in_ok-rows.rows represents sound
+      (sym (ap (look_refusal c.args.self.now) c.as_slice.ensures) ∙ c.in_ok-rows.ensures.look)
+      (c.in_ok-rows.ensures.rows ∙ ap (λ n. cached_rows c.args.self.now (cached_named c.args.self.now n)) c.as_slice.ensures);
+  short = search rules;
+  accepted = search rules;
+}
 
 pub returns-in_err-rows-clause-most : goal.returns-in_err-rows-clause-most
 returns-in_err-rows-clause-most g c =

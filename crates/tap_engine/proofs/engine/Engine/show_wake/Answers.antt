@@ -12,9 +12,13 @@ returns-in_err-moment-clause-refusal g c =
     search (rules, by)
 
 pub returns-clause-ok : goal.returns-clause-ok
-returns-clause-ok g c = λ t represents sound. answers-wake c.args.self.now t c.args.name c.in_ok-moment.moment represents sound
-    (sym (ap (wake_refusal c.args.self.now) c.as_slice.ensures) ∙ c.in_ok-moment.ensures.look)
-    (c.in_ok-moment.ensures.moment ∙ ap (λ n. cached_wake c.args.self.now (cached_named c.args.self.now n)) c.as_slice.ensures)
+returns-clause-ok g c = record {
+  answer = λ t represents sound. answers-wake c.args.self.now t c.args.name c.in_ok-moment.moment represents sound
+      (sym (ap (wake_refusal c.args.self.now) c.as_slice.ensures) ∙ c.in_ok-moment.ensures.look)
+      (c.in_ok-moment.ensures.moment ∙ ap (λ n. cached_wake c.args.self.now (cached_named c.args.self.now n)) c.as_slice.ensures);
+  short = search rules;
+  accepted = search rules;
+}
 
 pub returns-in_err-moment-clause-most : goal.returns-in_err-moment-clause-most
 returns-in_err-moment-clause-most g c =
