@@ -8,9 +8,7 @@ ghost use Rattle.command_words.specs.PopOptions.{pop_app};
 ghost use Rattle.command_words.specs.PopWords.{pop_path_in, user_in, box_in, secret_in};
 ghost use Rattle.command_words.specs.PopWords.{IsPopWorded};
 ghost use Rattle.command_words.specs.WellWorded.{path_or_default};
-ghost use Rattle.tap_base.specs.Counts.{Rose};
 ghost use Rattle.keeper_core.specs.States.{IsFree, IsPlacedUnless, IsPlacedBy};
-ghost use Rattle.tap_rows.specs.declared.tables.Tables.{Tables};
 ghost use Rattle.tap_top.specs.Points.{CanOpen};
 ghost use Rattle.tap_top.specs.Premises.{FromDurable, FromStore, IfCalm};
 ghost use Rattle.tap_top.specs.Refusals.{Refusals};
@@ -19,7 +17,7 @@ ghost use Rattle.tap_top.specs.Opened.{HasShortTexts};
 ghost use Rattle.tap_top.specs.Causes.{Causes};
 ghost use Rattle.pop_box.specs.Letters.{letters_in};
 ghost use Rattle.tap_engine.specs.Standing.{OverSound};
-ghost use Rattle.pop_session.specs.Ends.{IsSession, PassedSessionLimit};
+ghost use Rattle.pop_session.specs.Ends.{IsSession, PassedSessionLimit, SessionCauses};
 ghost use Rattle.pop_box.specs.Prompt.{AskedUpToDate};
 ghost use Rattle.pop_box.specs.Served.{LettersServed, Served, TookQuit, Unchanged};
 ghost use Rattle.pop_box.specs.Served.{IsUndisturbedSession};
@@ -56,11 +54,8 @@ fn serve_with<S: Peer<K>, K: Sink, L: Ledger>(
         AskedUpToDate (letters_in asked.now.user asked.now.name t) asked.now.user asked.now.secret
         (S.left source.old) (K.out sink.old) (S.was_asked source.old) (S.was_asked source.new)) }
     ensures statuses { IsSession result ⊎ ((result ≡ 7) ⊎ (result ≡ 9)) }
-    ensures read_cause { result ≡ 3 → Rose (S.faults source.old) (S.faults source.new) }
-    ensures read_calm { result ≢ 3 → S.faults source.new ≡ S.faults source.old }
-    ensures put_cause { result ≡ 4 → Rose (K.faults sink.old) (K.faults sink.new) }
-    ensures put_calm { result ≢ 4 → K.faults sink.new ≡ K.faults sink.old }
-    ensures many { result ≡ 8 → PassedSessionLimit (S.left source.old) (S.left source.new) }
+    ensures causes { SessionCauses result (S.faults source.old) (S.faults source.new)
+        (K.faults sink.old) (K.faults sink.new) (S.left source.old) (S.left source.new) }
     ensures quit { result ≡ 0
         → TookQuit asked.now.user asked.now.secret (S.left source.old) (S.left source.new) }
     ensures ended { result ≡ 1 → IsAtEnd (S.left source.new) }

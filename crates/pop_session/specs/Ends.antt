@@ -1,10 +1,11 @@
 -- How a session over a source and a sink ended, by its status.
-use Rattle.std.specs.Prelude.{ℕ, ◌≡◌, ◌≤◌, ◌<◌, ◌⊎◌, ◌+◌, ◌-◌, List, [], length, take, Bool, true, false, Option}
+use Rattle.std.specs.Prelude.{ℕ, ◌≡◌, ◌≢◌, ◌≤◌, ◌<◌, ◌⊎◌, ◌+◌, ◌-◌, List, [], length, take, Bool, true, false, Option}
 use Rattle.std.specs.Io.KnownBytes.{Consumes, Appends, IsAtEnd}
 use Rattle.pop_session.specs.declared.letter.Letter.{Letter}
 use Rattle.pop_session.specs.Replies.{greeting}
 use Rattle.pop_session.specs.Sessions.{pop_replies, has_quit}
 use Rattle.pop_session.specs.declared.hold.TheConstants.{SESSION_LIMIT, PIECE}
+use Rattle.tap_base.specs.Counts.{Rose}
 use Rattle.tap_base.specs.Prefixes.{IsPrefix}
 
 -- bytes were taken from the source, at most one piece more than a session looks at (268,435,456)
@@ -59,6 +60,19 @@ module _ (replies : List ℕ → List ℕ) (quits : List ℕ → Bool) (left lef
 -- the status of a session that began
 abbrev pub IsSession : ℕ → Type 0
 IsSession status = (status ≤ 1) ⊎ ((status ≡ 3) ⊎ ((status ≡ 4) ⊎ (status ≡ 8)))
+
+-- when a session's statuses come
+pub record SessionCauses (status reads reads' puts puts' : ℕ) (left left' : Option (List ℕ)) : Type 0 where
+  -- 3 comes only if the source's count of faults rose
+  pub read_cause : status ≡ 3 → Rose reads reads'
+  -- with another status that count is unchanged
+  pub read_calm : status ≢ 3 → reads' ≡ reads
+  -- 4 comes only if the sink's count of faults rose
+  pub put_cause : status ≡ 4 → Rose puts puts'
+  -- with another status that count is unchanged
+  pub put_calm : status ≢ 4 → puts' ≡ puts
+  -- 8 comes only if more bytes were taken than a session looks at
+  pub many : status ≡ 8 → PassedSessionLimit left left'
 
 -- how a session of this user over these letters ended, from its greeting on
 abbrev pub LettersEnd :

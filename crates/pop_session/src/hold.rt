@@ -1,9 +1,8 @@
 //! A session over a source and a sink: the client's bytes in pieces, and the replies to them.
-ghost use Rattle.std.specs.Prelude.{◌≡◌, ◌≢◌, [], min};
-ghost use Rattle.tap_base.specs.Counts.{Rose};
+ghost use Rattle.std.specs.Prelude.{◌≡◌, [], min};
 ghost use Rattle.pop_session.specs.declared.outcome.Phase.{Phase};
 ghost use Rattle.pop_session.specs.Sessions.{AreShort, CanTakeBytes, replies_from, quits_from};
-ghost use Rattle.pop_session.specs.Ends.{SessionEnds, PassedSessionLimit, IsSession, LettersEnd};
+ghost use Rattle.pop_session.specs.Ends.{SessionEnds, SessionCauses, IsSession, LettersEnd};
 ghost use Rattle.pop_session.specs.Ends.{OpenEnd, IsSessionUpToDate};
 ghost use Rattle.peer_edges.specs.Asks.{AskedOnlyWhen};
 
@@ -43,11 +42,8 @@ fn answer_pieces<S: Peer<K>, K: Sink>(
         (K.out sink.old) o)
         (S.was_asked source.old) (S.was_asked source.new) }
     ensures statuses { IsSession result }
-    ensures read_cause { result ≡ 3 → Rose (S.faults source.old) (S.faults source.new) }
-    ensures read_calm { result ≢ 3 → S.faults source.new ≡ S.faults source.old }
-    ensures put_cause { result ≡ 4 → Rose (K.faults sink.old) (K.faults sink.new) }
-    ensures put_calm { result ≢ 4 → K.faults sink.new ≡ K.faults sink.old }
-    ensures many { result ≡ 8 → PassedSessionLimit (S.left source.old) (S.left source.new) }
+    ensures causes { SessionCauses result (S.faults source.old) (S.faults source.new)
+        (K.faults sink.old) (K.faults sink.new) (S.left source.old) (S.left source.new) }
 {
     replies_grow();
     let mut piece = [0u8; PIECE];
@@ -91,11 +87,8 @@ pub fn hold_session<S: Peer<K>, K: Sink>(
         IsSessionUpToDate user.now secret.now letters.now (S.left source.old) l (K.out sink.old) o)
         (S.was_asked source.old) (S.was_asked source.new) }
     ensures statuses { IsSession result }
-    ensures read_cause { result ≡ 3 → Rose (S.faults source.old) (S.faults source.new) }
-    ensures read_calm { result ≢ 3 → S.faults source.new ≡ S.faults source.old }
-    ensures put_cause { result ≡ 4 → Rose (K.faults sink.old) (K.faults sink.new) }
-    ensures put_calm { result ≢ 4 → K.faults sink.new ≡ K.faults sink.old }
-    ensures many { result ≡ 8 → PassedSessionLimit (S.left source.old) (S.left source.new) }
+    ensures causes { SessionCauses result (S.faults source.old) (S.faults source.new)
+        (K.faults sink.old) (K.faults sink.new) (S.left source.old) (S.left source.new) }
 {
     let mut session = PopSession::new(user, secret, letters);
     match session.greet(sink) {

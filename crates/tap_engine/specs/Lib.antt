@@ -1,6 +1,7 @@
 pub mod Arriving
 pub mod Standing
 pub mod Ready
+pub mod Started
 pub mod Answering
 pub mod FilterChecks
 pub mod Lists

@@ -1,6 +1,6 @@
 //! The engine: what is in memory of the tables, and the session.
 
-ghost use Rattle.std.specs.Prelude.{◌≡◌, false, length};
+ghost use Rattle.std.specs.Prelude.{◌≡◌, length};
 ghost use Rattle.tap_rows.specs.Tables.{no_rows};
 
 use query_eval::Hits;
@@ -34,16 +34,11 @@ pub struct Engine {
 }
 
 impl Engine {
-    ghost use Rattle.tap_model.specs.Sessions.{no_session};
-    ghost use Rattle.tap_engine.specs.Standing.{Represents};
-    ghost use Rattle.tap_engine.specs.Ready.{IsReady};
+    ghost use Rattle.tap_engine.specs.Started.{IsNewOver};
 
     /// Makes an engine with a new session that represents the empty tables.
     pub fn new(alloc: Global) -> Engine
-        ensures represents { Represents result no_rows }
-        ensures session { result.session ≡ no_session }
-        ensures running { result.stopped ≡ false }
-        ensures ready { IsReady result }
+        ensures { IsNewOver no_rows result }
     {
         Engine {
             session: Session::new(),

@@ -1,6 +1,6 @@
 //! The start of an engine over stored tables.
 
-ghost use Rattle.std.specs.Prelude.{◌≡◌, ◌⊎◌, None, Some, false, OnOk, IfOk, IfErr};
+ghost use Rattle.std.specs.Prelude.{◌≡◌, ◌⊎◌, None, Some, OnOk, IfOk, IfErr};
 ghost use Rattle.std.specs.Option.{option_map};
 ghost use Rattle.tap_kept.specs.Starting.{first_unread};
 
@@ -16,18 +16,13 @@ use tap_rows::Tables;
 
 impl Engine {
     ghost use Rattle.tap_kept.specs.declared.start_fault.StartFault.{StartFault as Fault};
-    ghost use Rattle.tap_model.specs.Sessions.{no_session};
     ghost use Rattle.tap_model.specs.Sound.{IsStore};
-    ghost use Rattle.tap_engine.specs.Standing.{Represents};
-    ghost use Rattle.tap_engine.specs.Ready.{IsReady};
+    ghost use Rattle.tap_engine.specs.Started.{IsNewOver};
 
     // Builds the engine from the parts of the tables. It looks at each row a fixed number of times,
     // and hashes texts under this key.
     fn build(alloc: Global, key: HashKey, sound: Sound) -> Result<Engine, StartFault>
-        ensures represents { IfOk result (λ engine. Represents engine sound) }
-        ensures session { IfOk result (λ engine. engine.session ≡ no_session) }
-        ensures running { IfOk result (λ engine. engine.stopped ≡ false) }
-        ensures ready { IfOk result (λ engine. IsReady engine) }
+        ensures ok { IfOk result (IsNewOver sound) }
         ensures read { OnOk result (first_unread sound.filters ≡ None) }
         ensures fault { IfErr result (λ fault. (fault ≡ Fault.Memory)
             ⊎ (option_map Fault.Rules (first_unread sound.filters) ≡ Some fault)) }
@@ -73,10 +68,7 @@ impl Engine {
     /// filter whose text has a fault if there is one, which is never over tables that a session
     /// left; otherwise it fails only if it is out of memory.
     pub fn start(alloc: Global, key: HashKey, sound: Sound) -> Result<Engine, StartFault>
-        ensures represents { IfOk result (λ engine. Represents engine sound) }
-        ensures session { IfOk result (λ engine. engine.session ≡ no_session) }
-        ensures running { IfOk result (λ engine. engine.stopped ≡ false) }
-        ensures ready { IfOk result (λ engine. IsReady engine) }
+        ensures ok { IfOk result (IsNewOver sound) }
         ensures read { OnOk result (first_unread sound.filters ≡ None) }
         ensures fault { IfErr result (λ fault. (fault ≡ Fault.Memory)
             ⊎ (option_map Fault.Rules (first_unread sound.filters) ≡ Some fault)) }

@@ -10,8 +10,11 @@ use Rattle.tap_model.specs.declared.session.Session.{Session}
 use Rattle.tap_model.specs.Verdicts.{verdict}
 use Rattle.tap_model.specs.Replies.{answer_of, tables_after}
 use Rattle.tap_model.specs.Stories.{Story}
+use Rattle.keeper_core.specs.declared.keeper.Keeper.{Ghosts}
+use Rattle.tap_engine.specs.declared.engine.Engine.{Engine}
 use Rattle.tap_engine.specs.Answering.{AddsRows}
 use Rattle.tap_top.specs.Points.{SoundAlong}
+use Rattle.tap_top.specs.Premises.{IsDurableIn, FromEngine}
 
 -- the commands were answered as in a story, their replies were taken, and this holds of the tables at its end
 pub record Answered (tables : Tables) (session : Session) (commands : List Command)
@@ -65,3 +68,14 @@ pub record ClosedCut (commands : List Command) (Cut : List Command → Command �
   pub last : Command
   pub only : commands ≡ last ∷ []
   pub cut : Cut [] last
+
+-- a call cut commands short at a failed put or a failed commit, over tables on which the engine and the keeper agreed; At says of
+-- which command that is true, Put and Keeper say that the put or the commit failed
+pub record CutsShort {K : Type 0} (g : Ghosts K) (engine : Engine) (old new : K)
+    (out out' : Option (List ℕ)) (At : (List Command → Command → Type 0) → Type 0) (Put Keeper : Type 0) : Type 0 where
+  -- if a put failed, the tables with the rows of the last command are durable, and its reply was put in part
+  pub put : Put → FromEngine g engine old new (λ t.
+      At (λ done last. CutOff t engine.session done last out out' (IsDurableIn g new)))
+  -- if a commit failed, the replies to the commands before were put
+  pub uncommitted : Keeper → FromEngine g engine old new (λ t.
+      At (λ done next. Uncommitted t engine.session done next out out' (g.may_leave new)))

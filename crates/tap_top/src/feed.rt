@@ -1,14 +1,13 @@
 //! Commands one by one: each is performed when its last line is read, and its reply is put before
 //! the next one.
-ghost use Rattle.std.specs.Prelude.{◌≡◌, ◌≤◌, ◌<◌, ◌↔◌, [], ◌∷◌, Some, None, true, length, take};
+ghost use Rattle.std.specs.Prelude.{◌≡◌, ◌≤◌, ◌<◌, [], ◌∷◌, Some, None, true, length, take};
 ghost use Rattle.std.specs.Prelude.{drop, OnOk, IfOk, IsErrOf};
-ghost use Rattle.tap_base.specs.Counts.{Rose};
 ghost use Rattle.script_lang.specs.Replies.{is_accepted};
 ghost use Rattle.script_lang.specs.Script.{script_from, complete_from};
 ghost use Rattle.tap_top.specs.Points.{CanPerform};
-ghost use Rattle.tap_top.specs.Frames.{CommandFrame};
 ghost use Rattle.tap_top.specs.Premises.{IsDurableIn, AgreeOn, FromEngine};
-ghost use Rattle.tap_top.specs.Answers.{Answered, CutOff, Uncommitted, ClosedCut};
+ghost use Rattle.tap_top.specs.Causes.{IsFault, LeavesKeeper};
+ghost use Rattle.tap_top.specs.Answers.{Answered, ClosedCut, CutsShort};
 ghost use Rattle.tap_top.specs.Pieces.{PieceAnswered, PieceCut, PieceOutOfMemory};
 ghost use Rattle.tap_top.specs.declared.feed.Stop.{Stop};
 
@@ -55,22 +54,14 @@ pub fn answer<K: Sink, P: Keeper, L: Ledger>(
     ensures ok { IfOk result (λ ok. FromEngine P.Keeper engine.old keeper.old keeper.new (λ t.
         Answered t engine.old.session (command ∷ []) (K.out sink.old) (K.out sink.new)
         (AgreeOn P.Keeper engine.new keeper.new) engine.new.session ok)) }
-    ensures put { IsErrOf result Stop.Put
-        → FromEngine P.Keeper engine.old keeper.old keeper.new (λ t.
-        CutOff t engine.old.session [] command (K.out sink.old) (K.out sink.new)
-        (IsDurableIn P.Keeper keeper.new)) }
-    ensures uncommitted { IsErrOf result Stop.Keeper
-        → FromEngine P.Keeper engine.old keeper.old keeper.new (λ t.
-        Uncommitted t engine.old.session [] command (K.out sink.old) (K.out sink.new)
-        (P.may_leave keeper.new)) }
+    ensures cut { CutsShort P.Keeper engine.old keeper.old keeper.new
+        (K.out sink.old) (K.out sink.new) (λ Cut. Cut [] command)
+        (IsErrOf result Stop.Put) (IsErrOf result Stop.Keeper) }
     ensures able { IsErrOf result Stop.Memory → ⊥ }
     ensures can { OnOk result (CanPerform P.Keeper engine.new keeper.new) }
-    ensures stopped { (P.stopped keeper.new ≡ true) ↔ IsErrOf result Stop.Keeper }
-    ensures cause { IsErrOf result Stop.Put → Rose (K.faults sink.old) (K.faults sink.new) }
-    ensures kept_cause { IsErrOf result Stop.Keeper
-        → Rose (P.faults keeper.old) (P.faults keeper.new) }
-    ensures calm { (IsErrOf result Stop.Put → ⊥) → K.faults sink.new ≡ K.faults sink.old }
-    ensures frame { CommandFrame P.Keeper engine.old keeper.old keeper.new }
+    ensures puts { IsFault (IsErrOf result Stop.Put) (K.faults sink.old) (K.faults sink.new) }
+    ensures leaves { LeavesKeeper P.Keeper engine.old keeper.old keeper.new
+        (IsErrOf result Stop.Keeper) }
 {
     let reply = match engine.perform(alloc, keeper, command, steps) {
         Ok(reply) => reply,
@@ -115,25 +106,15 @@ fn take_one<K: Sink, P: Keeper, L: Ledger>(
         PieceAnswered (take step.used piece.now) reader.old reader.new t
         engine.old.session (K.out sink.old) (K.out sink.new)
         (AgreeOn P.Keeper engine.new keeper.new) engine.new.session step.ok)) }
-    ensures put { IsErrOf result Stop.Put
-        → FromEngine P.Keeper engine.old keeper.old keeper.new (λ t.
-        PieceCut piece.now reader.old (λ done last.
-        CutOff t engine.old.session done last (K.out sink.old) (K.out sink.new)
-        (IsDurableIn P.Keeper keeper.new))) }
-    ensures uncommitted { IsErrOf result Stop.Keeper
-        → FromEngine P.Keeper engine.old keeper.old keeper.new (λ t.
-        PieceCut piece.now reader.old (λ done next.
-        Uncommitted t engine.old.session done next (K.out sink.old) (K.out sink.new)
-        (P.may_leave keeper.new))) }
+    ensures cut { CutsShort P.Keeper engine.old keeper.old keeper.new
+        (K.out sink.old) (K.out sink.new) (PieceCut piece.now reader.old)
+        (IsErrOf result Stop.Put) (IsErrOf result Stop.Keeper) }
     ensures memory { IsErrOf result Stop.Memory → (keeper.new ≡ keeper.old)
         × ((engine.new ≡ engine.old) × (K.out sink.new ≡ K.out sink.old)) }
     ensures can { OnOk result (CanPerform P.Keeper engine.new keeper.new) }
-    ensures stopped { (P.stopped keeper.new ≡ true) ↔ IsErrOf result Stop.Keeper }
-    ensures cause { IsErrOf result Stop.Put → Rose (K.faults sink.old) (K.faults sink.new) }
-    ensures kept_cause { IsErrOf result Stop.Keeper
-        → Rose (P.faults keeper.old) (P.faults keeper.new) }
-    ensures calm { (IsErrOf result Stop.Put → ⊥) → K.faults sink.new ≡ K.faults sink.old }
-    ensures frame { CommandFrame P.Keeper engine.old keeper.old keeper.new }
+    ensures puts { IsFault (IsErrOf result Stop.Put) (K.faults sink.old) (K.faults sink.new) }
+    ensures leaves { LeavesKeeper P.Keeper engine.old keeper.old keeper.new
+        (IsErrOf result Stop.Keeper) }
 {
     let got = match reader.take(piece) {
         Ok(got) => got,
@@ -167,27 +148,17 @@ pub fn feed<K: Sink, P: Keeper, L: Ledger>(
         PieceAnswered piece.now reader.old reader.new t engine.old.session (K.out sink.old)
         (K.out sink.new)
         (AgreeOn P.Keeper engine.new keeper.new) engine.new.session ok)) }
-    ensures put { IsErrOf result Stop.Put
-        → FromEngine P.Keeper engine.old keeper.old keeper.new (λ t.
-        PieceCut piece.now reader.old (λ done last.
-        CutOff t engine.old.session done last (K.out sink.old) (K.out sink.new)
-        (IsDurableIn P.Keeper keeper.new))) }
-    ensures uncommitted { IsErrOf result Stop.Keeper
-        → FromEngine P.Keeper engine.old keeper.old keeper.new (λ t.
-        PieceCut piece.now reader.old (λ done next.
-        Uncommitted t engine.old.session done next (K.out sink.old) (K.out sink.new)
-        (P.may_leave keeper.new))) }
+    ensures cut { CutsShort P.Keeper engine.old keeper.old keeper.new
+        (K.out sink.old) (K.out sink.new) (PieceCut piece.now reader.old)
+        (IsErrOf result Stop.Put) (IsErrOf result Stop.Keeper) }
     ensures memory { IsErrOf result Stop.Memory
         → FromEngine P.Keeper engine.old keeper.old keeper.new (λ t.
         PieceOutOfMemory piece.now reader.old t engine.old.session (K.out sink.old) (K.out sink.new)
         (IsDurableIn P.Keeper keeper.new)) }
     ensures can { OnOk result (CanPerform P.Keeper engine.new keeper.new) }
-    ensures stopped { (P.stopped keeper.new ≡ true) ↔ IsErrOf result Stop.Keeper }
-    ensures cause { IsErrOf result Stop.Put → Rose (K.faults sink.old) (K.faults sink.new) }
-    ensures kept_cause { IsErrOf result Stop.Keeper
-        → Rose (P.faults keeper.old) (P.faults keeper.new) }
-    ensures calm { (IsErrOf result Stop.Put → ⊥) → K.faults sink.new ≡ K.faults sink.old }
-    ensures frame { CommandFrame P.Keeper engine.old keeper.old keeper.new }
+    ensures puts { IsFault (IsErrOf result Stop.Put) (K.faults sink.old) (K.faults sink.new) }
+    ensures leaves { LeavesKeeper P.Keeper engine.old keeper.old keeper.new
+        (IsErrOf result Stop.Keeper) }
 {
     let mut all_ok = true;
     let mut rest = piece;
@@ -219,24 +190,14 @@ pub fn finish<K: Sink, P: Keeper, L: Ledger>(
     ensures ok { IfOk result (λ ok. FromEngine P.Keeper engine.old keeper.old keeper.new (λ t.
         Answered t engine.old.session (script_from reader.old []) (K.out sink.old) (K.out sink.new)
         (AgreeOn P.Keeper engine.new keeper.new) engine.new.session ok)) }
-    ensures put { IsErrOf result Stop.Put
-        → FromEngine P.Keeper engine.old keeper.old keeper.new (λ t.
-        ClosedCut (script_from reader.old []) (λ done last.
-        CutOff t engine.old.session done last (K.out sink.old) (K.out sink.new)
-        (IsDurableIn P.Keeper keeper.new))) }
-    ensures uncommitted { IsErrOf result Stop.Keeper
-        → FromEngine P.Keeper engine.old keeper.old keeper.new (λ t.
-        ClosedCut (script_from reader.old []) (λ done next.
-        Uncommitted t engine.old.session done next (K.out sink.old) (K.out sink.new)
-        (P.may_leave keeper.new))) }
+    ensures cut { CutsShort P.Keeper engine.old keeper.old keeper.new
+        (K.out sink.old) (K.out sink.new) (ClosedCut (script_from reader.old []))
+        (IsErrOf result Stop.Put) (IsErrOf result Stop.Keeper) }
     ensures memory { IsErrOf result Stop.Memory → (keeper.new ≡ keeper.old)
         × ((engine.new ≡ engine.old) × (K.out sink.new ≡ K.out sink.old)) }
-    ensures stopped { (P.stopped keeper.new ≡ true) ↔ IsErrOf result Stop.Keeper }
-    ensures cause { IsErrOf result Stop.Put → Rose (K.faults sink.old) (K.faults sink.new) }
-    ensures kept_cause { IsErrOf result Stop.Keeper
-        → Rose (P.faults keeper.old) (P.faults keeper.new) }
-    ensures calm { (IsErrOf result Stop.Put → ⊥) → K.faults sink.new ≡ K.faults sink.old }
-    ensures frame { CommandFrame P.Keeper engine.old keeper.old keeper.new }
+    ensures puts { IsFault (IsErrOf result Stop.Put) (K.faults sink.old) (K.faults sink.new) }
+    ensures leaves { LeavesKeeper P.Keeper engine.old keeper.old keeper.new
+        (IsErrOf result Stop.Keeper) }
 {
     match reader.finish() {
         Ok(None) => Ok(true),

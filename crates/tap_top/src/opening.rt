@@ -8,7 +8,7 @@ ghost use Rattle.tap_rows.specs.declared.tables.Tables.{Tables as TableRows};
 ghost use Rattle.restart_core.specs.Damages.{damage_of};
 ghost use Rattle.tap_model.specs.Sessions.{no_session};
 ghost use Rattle.tap_engine.specs.Standing.{Represents};
-ghost use Rattle.tap_engine.specs.Ready.{IsReady};
+ghost use Rattle.tap_engine.specs.Started.{IsNewOver};
 ghost use Rattle.tap_top.specs.Points.{CanOpen, CanPerform};
 ghost use Rattle.tap_top.specs.Premises.{IsDurableIn, IfTold};
 ghost use Rattle.tap_top.specs.Versions.{IsMigrated, MayBeMigrated};
@@ -45,9 +45,7 @@ fn as_str(text: &Text) -> &str
 
 // Checks the tables of a store, and starts an engine over them.
 fn start(alloc: Global, key: HashKey, tables: Tables) -> Result<Engine, OpenFault>
-    ensures can { IfOk result (λ engine. IsReady engine × (engine.stopped ≡ false)) }
-    ensures session { IfOk result (λ engine. engine.session ≡ no_session) }
-    ensures represents { IfOk result (λ engine. Represents engine tables) }
+    ensures ok { IfOk result (IsNewOver tables) }
     ensures sure { OnOk result (row_fault tables ≡ None) }
     ensures undamaged { OnOk result (damage_of tables ≡ None) }
     ensures refused { IfRefused result (λ fault. row_fault tables ≡ Some fault) }

@@ -15,8 +15,8 @@ ghost use Rattle.tap_top.specs.declared.sampled.Cut.{Cut};
 ghost use Rattle.tap_top.specs.Codes.{code_of, PerformedAll, is_all_ok, IsOfClose};
 ghost use Rattle.tap_top.specs.Refusals.{Refusals};
 ghost use Rattle.tap_top.specs.Points.{CanOpen, CanPerform};
-ghost use Rattle.tap_top.specs.Frames.{CommandFrame};
 ghost use Rattle.tap_top.specs.Premises.{IsDurableIn, AgreeOn, FromEngine, FromStore};
+ghost use Rattle.tap_top.specs.Causes.{IsFault, LeavesKeeper};
 ghost use Rattle.tap_top.specs.Versions.{VersionAtExit};
 ghost use Rattle.tap_top.specs.Ends.{EngineSampleEnds, SampleEnds};
 ghost use Rattle.tap_top.specs.Samples.{refusals_in, hits_in, PassesEnd, Performed, Counted, Adds};
@@ -83,10 +83,8 @@ fn perform_one<P: Keeper, L: Ledger>(
         → FromEngine P.Keeper engine.old keeper.old keeper.new (λ t.
         NextUncommitted t engine.old.session (command ∷ []) (P.may_leave keeper.new)) }
     ensures can { OnOk result (CanPerform P.Keeper engine.new keeper.new) }
-    ensures stopped { (P.stopped keeper.new ≡ true) ↔ IsErrOf result Cut.Keeper }
-    ensures kept_cause { IsErrOf result Cut.Keeper
-        → Rose (P.faults keeper.old) (P.faults keeper.new) }
-    ensures frame { CommandFrame P.Keeper engine.old keeper.old keeper.new }
+    ensures leaves { LeavesKeeper P.Keeper engine.old keeper.old keeper.new
+        (IsErrOf result Cut.Keeper) }
 {
     let reply = match engine.perform(alloc, keeper, command, steps) {
         Ok(reply) => reply,
@@ -119,10 +117,8 @@ fn perform_all<P: Keeper, L: Ledger>(
         → FromEngine P.Keeper engine.old keeper.old keeper.new (λ t.
         NextUncommitted t engine.old.session commands (P.may_leave keeper.new)) }
     ensures can { OnOk result (CanPerform P.Keeper engine.new keeper.new) }
-    ensures stopped { (P.stopped keeper.new ≡ true) ↔ IsErrOf result Cut.Keeper }
-    ensures kept_cause { IsErrOf result Cut.Keeper
-        → Rose (P.faults keeper.old) (P.faults keeper.new) }
-    ensures frame { CommandFrame P.Keeper engine.old keeper.old keeper.new }
+    ensures leaves { LeavesKeeper P.Keeper engine.old keeper.old keeper.new
+        (IsErrOf result Cut.Keeper) }
 {
     let mut tally = Tally::new();
     for command in commands.into_vec() {
@@ -164,8 +160,7 @@ fn put_summary<K: Sink>(summary: Summary, sink: &mut K) -> Status
         → Appends (K.out sink.old) (K.out sink.new) (summary_lines summary) }
     ensures cut { result ≡ Status.PutFailed
         → FrontPut (summary_lines summary) (K.out sink.old) (K.out sink.new) }
-    ensures cause { result ≡ Status.PutFailed → Rose (K.faults sink.old) (K.faults sink.new) }
-    ensures calm { result ≢ Status.PutFailed → K.faults sink.new ≡ K.faults sink.old }
+    ensures puts { IsFault (result ≡ Status.PutFailed) (K.faults sink.old) (K.faults sink.new) }
 {
     match sink.put(summary.lines().as_slice()) {
         Ok(()) if summary.refused == 0 => Status::AllOk,
@@ -192,12 +187,9 @@ fn run_sample<K: Sink, P: Keeper, L: Ledger>(
     ensures silent { (result ≡ Status.KeeperFailed) ⊎ (result ≡ Status.OutOfMemory)
         → K.out sink.new ≡ K.out sink.old }
     ensures statuses { IsOfClose result }
-    ensures stopped { (P.stopped keeper.new ≡ true) ↔ (result ≡ Status.KeeperFailed) }
-    ensures cause { result ≡ Status.PutFailed → Rose (K.faults sink.old) (K.faults sink.new) }
-    ensures calm { result ≢ Status.PutFailed → K.faults sink.new ≡ K.faults sink.old }
-    ensures kept_cause { result ≡ Status.KeeperFailed
-        → Rose (P.faults keeper.old) (P.faults keeper.new) }
-    ensures frame { CommandFrame P.Keeper engine.old keeper.old keeper.new }
+    ensures puts { IsFault (result ≡ Status.PutFailed) (K.faults sink.old) (K.faults sink.new) }
+    ensures leaves { LeavesKeeper P.Keeper engine.old keeper.old keeper.new
+        (result ≡ Status.KeeperFailed) }
 {
     let Ok(commands) = sample(alloc, n) else {
         return Status::OutOfMemory;
@@ -241,8 +233,7 @@ pub fn sample_store<K: Sink, P: Keeper, L: Ledger>(
         left left (K.out sink.old) (K.out sink.new) }
 
     // When each status comes.
-    ensures cause { result ≡ Status.PutFailed → Rose (K.faults sink.old) (K.faults sink.new) }
-    ensures calm { result ≢ Status.PutFailed → K.faults sink.new ≡ K.faults sink.old }
+    ensures puts { IsFault (result ≡ Status.PutFailed) (K.faults sink.old) (K.faults sink.new) }
     ensures stopped { (P.stopped keeper.new ≡ true) ↔ (result ≡ Status.KeeperFailed) }
     ensures kept_cause { result ≡ Status.KeeperFailed
         → Rose (P.faults keeper.old) (P.faults keeper.new) }

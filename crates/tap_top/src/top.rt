@@ -1,5 +1,5 @@
 //! The top call: reads the words, opens the store, and performs a script or a sample over it.
-ghost use Rattle.std.specs.Prelude.{◌≡◌, ◌≢◌, ◌≤◌, ◌⊎◌, ◌&&◌, ◌↔◌, ◌==◌};
+ghost use Rattle.std.specs.Prelude.{◌≡◌, ◌≢◌, ◌≤◌, ◌⊎◌, ◌&&◌, ◌==◌};
 ghost use Rattle.std.specs.Prelude.{ℕ, List, [], Option, Some, None, true, false, min};
 ghost use Rattle.std.specs.List.{All};
 ghost use Rattle.std.specs.Str.{IsUtf8};
@@ -8,20 +8,18 @@ ghost use Rattle.clap.specs.Words.{takes, fault_of as faults_of};
 ghost use Rattle.command_words.specs.Options.{app};
 ghost use Rattle.command_words.specs.Words.{path_in, sample_in};
 ghost use Rattle.command_words.specs.WellWorded.{IsWellWorded, path_or_default};
-ghost use Rattle.tap_base.specs.Counts.{Rose};
 ghost use Rattle.keeper_core.specs.States.{IsFree, IsPlacedUnless, IsPlacedBy};
 ghost use Rattle.tap_rows.specs.declared.tables.Tables.{Tables};
 ghost use Rattle.script_lang.specs.Script.{script_from};
 ghost use Rattle.tap_model.specs.Sessions.{no_session};
 ghost use Rattle.tap_model.specs.Sound.{IsStore};
 ghost use Rattle.tap_top.specs.Points.{CanOpen, CanPerform};
-ghost use Rattle.tap_top.specs.Frames.{CommandFrame};
 ghost use Rattle.tap_top.specs.Premises.{IsDurableIn, FromEngine, FromStore, IsCalm, IfCalm};
 ghost use Rattle.tap_top.specs.Premises.{IsUndisturbed};
 ghost use Rattle.tap_top.specs.Versions.{VersionAtExit};
-ghost use Rattle.tap_top.specs.Answers.{CutOff, Uncommitted, Closed, ClosedCut};
+ghost use Rattle.tap_top.specs.Answers.{Closed, ClosedCut, CutsShort};
 ghost use Rattle.tap_top.specs.Statuses.{PassedScriptLimit, HoldsScript};
-ghost use Rattle.tap_top.specs.Causes.{Causes};
+ghost use Rattle.tap_top.specs.Causes.{Causes, IsFault, LeavesKeeper};
 ghost use Rattle.tap_top.specs.Prompt.{IsUpToDate};
 ghost use Rattle.peer_edges.specs.Asks.{AskedOnlyWhen};
 ghost use Rattle.tap_top.specs.Ends.{EngineScriptEnds, ScriptEnds, SampleEnds};
@@ -84,25 +82,15 @@ fn close<K: Sink, P: Keeper, L: Ledger>(
     ensures whole { PerformedAll result → FromEngine P.Keeper engine.old keeper.old keeper.new (λ t.
         Closed t engine.old.session (script_from reader.old []) (K.out sink.old) (K.out sink.new)
         (IsDurableIn P.Keeper keeper.new) all_ok (is_all_ok result)) }
-    ensures put { result ≡ Status.PutFailed
-        → FromEngine P.Keeper engine.old keeper.old keeper.new (λ t.
-        ClosedCut (script_from reader.old []) (λ done last.
-        CutOff t engine.old.session done last (K.out sink.old) (K.out sink.new)
-        (IsDurableIn P.Keeper keeper.new))) }
-    ensures uncommitted { result ≡ Status.KeeperFailed
-        → FromEngine P.Keeper engine.old keeper.old keeper.new (λ t.
-        ClosedCut (script_from reader.old []) (λ done next.
-        Uncommitted t engine.old.session done next (K.out sink.old) (K.out sink.new)
-        (P.may_leave keeper.new))) }
+    ensures cut { CutsShort P.Keeper engine.old keeper.old keeper.new
+        (K.out sink.old) (K.out sink.new) (ClosedCut (script_from reader.old []))
+        (result ≡ Status.PutFailed) (result ≡ Status.KeeperFailed) }
     ensures memory { result ≡ Status.OutOfMemory → (keeper.new ≡ keeper.old)
         × ((engine.new ≡ engine.old) × (K.out sink.new ≡ K.out sink.old)) }
     ensures statuses { IsOfClose result }
-    ensures stopped { (P.stopped keeper.new ≡ true) ↔ (result ≡ Status.KeeperFailed) }
-    ensures cause { result ≡ Status.PutFailed → Rose (K.faults sink.old) (K.faults sink.new) }
-    ensures kept_cause { result ≡ Status.KeeperFailed
-        → Rose (P.faults keeper.old) (P.faults keeper.new) }
-    ensures calm { result ≢ Status.PutFailed → K.faults sink.new ≡ K.faults sink.old }
-    ensures frame { CommandFrame P.Keeper engine.old keeper.old keeper.new }
+    ensures puts { IsFault (result ≡ Status.PutFailed) (K.faults sink.old) (K.faults sink.new) }
+    ensures leaves { LeavesKeeper P.Keeper engine.old keeper.old keeper.new
+        (result ≡ Status.KeeperFailed) }
 {
     match finish(alloc, reader, engine, keeper, steps, sink) {
         Ok(ok) => status(all_ok && ok),
@@ -133,16 +121,12 @@ fn run<S: Peer<K>, K: Sink, P: Keeper, L: Ledger>(
     ensures many { result ≡ Status.ScriptTooLong
         → PassedScriptLimit (S.left source.old) (S.left source.new) }
     ensures statuses { IsOfRun result }
-    ensures stopped { (P.stopped keeper.new ≡ true) ↔ (result ≡ Status.KeeperFailed) }
-    ensures read_cause { result ≡ Status.ReadFailed
-        → Rose (S.faults source.old) (S.faults source.new) }
-    ensures read_calm { result ≢ Status.ReadFailed → S.faults source.new ≡ S.faults source.old }
-    ensures put_cause { result ≡ Status.PutFailed → Rose (K.faults sink.old) (K.faults sink.new) }
-    ensures put_calm { result ≢ Status.PutFailed → K.faults sink.new ≡ K.faults sink.old }
+    ensures reads { IsFault (result ≡ Status.ReadFailed)
+        (S.faults source.old) (S.faults source.new) }
+    ensures puts { IsFault (result ≡ Status.PutFailed) (K.faults sink.old) (K.faults sink.new) }
     ensures ended { PerformedAll result → IsAtEnd (S.left source.new) }
-    ensures kept_cause { result ≡ Status.KeeperFailed
-        → Rose (P.faults keeper.old) (P.faults keeper.new) }
-    ensures frame { CommandFrame P.Keeper engine.old keeper.old keeper.new }
+    ensures leaves { LeavesKeeper P.Keeper engine.old keeper.old keeper.new
+        (result ≡ Status.KeeperFailed) }
 {
     let mut reader = ScriptReader::new(alloc);
     let mut piece = [0u8; PIECE];

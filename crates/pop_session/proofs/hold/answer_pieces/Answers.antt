@@ -1,4 +1,4 @@
-use Rattle.std.proofs.Common.{◌∙◌, refl, arith, ◌≤◌, ◌<◌, length}
+use Rattle.std.proofs.Common.{rules, ◌∙◌, refl, arith, ◌≤◌, ◌<◌, length}
 use Rattle.pop_session.specs.declared.hold.TheConstants.{SESSION_LIMIT, PIECE}
 use Rattle.pop_session.proofs.PieceRuns.{Answering-asked, Answering-start, Answering-more, Answering-quit, Answering-read, Answering-end}
 use Rattle.pop_session.proofs.PieceRuns.{Answering-long, Answering-cut, none-taken, many-taken, few-taken, begun-none, begun-open}
@@ -65,10 +65,16 @@ returns-clause-ends g c =
     let many : SESSION_LIMIT < c.pieces.taken = (let e = c.pieces-test.false in omega arith) in
     long-ends _ _ _ _ _ _ _ (Answering-long _ _ _ _ _ _ _ _ _ c.pieces.invariant.answering many c.pieces.invariant.few)
 
-pub returns-clause-many : goal.returns-clause-many
-returns-clause-many g c = λ _.
-    let many : SESSION_LIMIT < c.pieces.taken = (let e = c.pieces-test.false in omega arith) in
-    many-taken _ _ _ c.pieces.invariant.answering.taking many c.pieces.invariant.few
+pub returns-clause-causes : goal.returns-clause-causes
+returns-clause-causes g c = record {
+  read_cause = search rules;
+  read_calm = search rules;
+  put_cause = search rules;
+  put_calm = search rules;
+  many = λ _.
+      let many : SESSION_LIMIT < c.pieces.taken = (let e = c.pieces-test.false in omega arith) in
+      many-taken _ _ _ c.pieces.invariant.answering.taking many c.pieces.invariant.few;
+}
 
 pub returns-in-Err-clause-prompt : goal.returns-in-Err-clause-prompt
 returns-in-Err-clause-prompt g c =

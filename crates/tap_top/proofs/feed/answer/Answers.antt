@@ -5,11 +5,14 @@ use Rattle.tap_top.specs.Points.{EngineMatchesKeeper}
 use Rattle.tap_top.proofs.Stories.{Answered-one, CutOff-one, Uncommitted-one}
 use Rattle.tap_top.proofs.feed.answer.Goals as goal
 
-pub returns-in-Err-KeeperFailed-clause-uncommitted : goal.returns-in-Err-KeeperFailed-clause-uncommitted
-returns-in-Err-KeeperFailed-clause-uncommitted g c = λ _ t honest at.
-    let sound = sound-for c.args.command t c.args.engine.now.session at.sound in
-    let crash = c.in-Err-KeeperFailed.ensures.crash t at.represents sound honest at.holds in
-    Uncommitted-one t _ c.args.command _ _ at.sound crash.0 (c.in-Err-KeeperFailed.ensures.adds t at.represents sound) crash.1
+pub returns-in-Err-KeeperFailed-clause-cut : goal.returns-in-Err-KeeperFailed-clause-cut
+returns-in-Err-KeeperFailed-clause-cut g c = record {
+  put = search rules;
+  uncommitted = λ _ t honest at.
+      let sound = sound-for c.args.command t c.args.engine.now.session at.sound in
+      let crash = c.in-Err-KeeperFailed.ensures.crash t at.represents sound honest at.holds in
+      Uncommitted-one t _ c.args.command _ _ at.sound crash.0 (c.in-Err-KeeperFailed.ensures.adds t at.represents sound) crash.1;
+}
 
 pub returns-in-Ok-put_reply-clause-ok : goal.returns-in-Ok-put_reply-clause-ok
 returns-in-Ok-put_reply-clause-ok g c = λ t honest at.
@@ -26,29 +29,38 @@ returns-in-Ok-put_reply-clause-ok g c = λ t honest at.
     (EngineMatchesKeeper c.perform.new.self (g.P.Keeper.tells c.perform.new.keeper) (g.P.Keeper.may_leave c.perform.new.keeper)) _ _
     c.is_ok.result at.sound step c.in-Ok-put_reply.ensures.ok c.is_ok.ensures there
 
-pub returns-clause-put : goal.returns-clause-put
-returns-clause-put g c = λ _ t honest at.
-    CutOff-one t _ c.args.command c.in-Ok.reply _ _ _ (next_tables c.args.command c.in-Ok.reply c.args.engine.now.session t) _
-    c.in-Err.field-0 at.sound (c.in-Ok.ensures.step t at.represents (sound-for c.args.command t c.args.engine.now.session at.sound))
-    c.in-Err.ensures.err
-    (c.in-Ok.ensures.kept t at.represents (sound-for c.args.command t c.args.engine.now.session at.sound) honest at.holds)
+pub returns-clause-cut : goal.returns-clause-cut
+returns-clause-cut g c = record {
+  put = λ _ t honest at.
+      CutOff-one t _ c.args.command c.in-Ok.reply _ _ _ (next_tables c.args.command c.in-Ok.reply c.args.engine.now.session t) _
+      c.in-Err.field-0 at.sound (c.in-Ok.ensures.step t at.represents (sound-for c.args.command t c.args.engine.now.session at.sound))
+      c.in-Err.ensures.err
+      (c.in-Ok.ensures.kept t at.represents (sound-for c.args.command t c.args.engine.now.session at.sound) honest at.holds);
+  uncommitted = search rules;
+}
 
-pub returns-in-Err-KeeperFailed-clause-frame : goal.returns-in-Err-KeeperFailed-clause-frame
-returns-in-Err-KeeperFailed-clause-frame g c = record {
+pub returns-in-Err-KeeperFailed-clause-leaves : goal.returns-in-Err-KeeperFailed-clause-leaves
+returns-in-Err-KeeperFailed-clause-leaves g c = record {
+  cause = search rules;
+  stopped = search rules;
   keeper = search rules;
   version = λ t honest at. c.in-Err-KeeperFailed.ensures.version t
       at.represents (sound-for c.args.command t c.args.engine.now.session at.sound) honest at.holds.told;
 }
 
-pub returns-in-Ok-put_reply-clause-frame : goal.returns-in-Ok-put_reply-clause-frame
-returns-in-Ok-put_reply-clause-frame g c = record {
+pub returns-in-Ok-put_reply-clause-leaves : goal.returns-in-Ok-put_reply-clause-leaves
+returns-in-Ok-put_reply-clause-leaves g c = record {
+  cause = search rules;
+  stopped = search rules;
   keeper = search rules;
   version = λ t honest at.
       c.in-Ok.ensures.version t at.represents (sound-for c.args.command t c.args.engine.now.session at.sound) honest at.holds.told;
 }
 
-pub returns-clause-frame : goal.returns-clause-frame
-returns-clause-frame g c = record {
+pub returns-clause-leaves : goal.returns-clause-leaves
+returns-clause-leaves g c = record {
+  cause = search rules;
+  stopped = search rules;
   keeper = search rules;
   version = λ t honest at.
       c.in-Ok.ensures.version t at.represents (sound-for c.args.command t c.args.engine.now.session at.sound) honest at.holds.told;

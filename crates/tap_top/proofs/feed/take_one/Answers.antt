@@ -17,14 +17,14 @@ returns-in-Ok-answer-clause-ok g c = λ t honest at.
     c.in-Ok.ensures.script c.in-Ok.ensures.complete c.in-Ok.ensures.open (c.in-Some.command ∷ []) (ap option_to_list c.in-Some.is)
     (c.in-Ok-answer.ensures.ok t honest at)
 
-pub returns-in-Err-answer-clause-put : goal.returns-in-Err-answer-clause-put
-returns-in-Err-answer-clause-put g c = λ is t honest at.
-    PieceCut-got c.args.piece.now c.in-Ok.got.used c.in-Ok.got.command c.args.reader.now c.take.new.self _
-    c.in-Ok.ensures.until c.in-Ok.ensures.complete c.in-Ok.ensures.open c.in-Some.command (ap option_to_list c.in-Some.is)
-    (c.in-Ok.ensures.some c.requires.some) c.in-Ok.ensures.within (c.in-Err-answer.ensures.put (Err-at _ _ is) t honest at)
-
-pub returns-in-Err-answer-clause-uncommitted : goal.returns-in-Err-answer-clause-uncommitted
-returns-in-Err-answer-clause-uncommitted g c = λ is t honest at.
-    PieceCut-got c.args.piece.now c.in-Ok.got.used c.in-Ok.got.command c.args.reader.now c.take.new.self _
-    c.in-Ok.ensures.until c.in-Ok.ensures.complete c.in-Ok.ensures.open c.in-Some.command (ap option_to_list c.in-Some.is)
-    (c.in-Ok.ensures.some c.requires.some) c.in-Ok.ensures.within (c.in-Err-answer.ensures.uncommitted (Err-at _ _ is) t honest at)
+pub returns-in-Err-answer-clause-cut : goal.returns-in-Err-answer-clause-cut
+returns-in-Err-answer-clause-cut g c = record {
+  put = λ is t honest at.
+      PieceCut-got c.args.piece.now c.in-Ok.got.used c.in-Ok.got.command c.args.reader.now c.take.new.self _
+      c.in-Ok.ensures.until c.in-Ok.ensures.complete c.in-Ok.ensures.open c.in-Some.command (ap option_to_list c.in-Some.is)
+      (c.in-Ok.ensures.some c.requires.some) c.in-Ok.ensures.within (c.in-Err-answer.ensures.cut.put (Err-at _ _ is) t honest at);
+  uncommitted = λ is t honest at.
+      PieceCut-got c.args.piece.now c.in-Ok.got.used c.in-Ok.got.command c.args.reader.now c.take.new.self _
+      c.in-Ok.ensures.until c.in-Ok.ensures.complete c.in-Ok.ensures.open c.in-Some.command (ap option_to_list c.in-Some.is)
+      (c.in-Ok.ensures.some c.requires.some) c.in-Ok.ensures.within (c.in-Err-answer.ensures.cut.uncommitted (Err-at _ _ is) t honest at);
+}

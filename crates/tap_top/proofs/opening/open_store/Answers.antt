@@ -1,9 +1,10 @@
-use Rattle.std.proofs.Common.{◌≡◌, refl, sym, subst, None, false, ℤ, pos}
+use Rattle.std.proofs.Common.{◌≡◌, refl, sym, subst, None, ℤ, pos}
 use Rattle.std.specs.Prelude.{◌⊎◌}
 use Rattle.tap_rows.specs.declared.tables.Tables.{Tables}
 use Rattle.restart_core.specs.Damages.{damage_of}
+use Rattle.tap_model.specs.Sessions.{no_session}
 use Rattle.tap_engine.specs.Standing.{Represents}
-use Rattle.tap_engine.specs.Ready.{IsReady}
+use Rattle.tap_engine.specs.Started.{IsNewOver}
 use Rattle.tap_top.specs.Points.{CanPerform}
 use Rattle.tap_top.specs.Premises.{IfTold}
 use Rattle.tap_top.specs.Refusals.{row_fault, fault_of}
@@ -16,28 +17,32 @@ use Rattle.tap_top.proofs.opening.open_store.Goals as goal
 
 pub returns-in-Ok-clause-can : goal.returns-in-Ok-clause-can
 returns-in-Ok-clause-can g c =
-    if-ok c.start.result (λ engine. IsReady engine × (engine.stopped ≡ false)) (λ engine. CanPerform g.P.Keeper engine c.attach.new.self)
-    (λ engine can. record {
-      ready = can.0;
-      running = can.1;
+    if-ok c.start.result (IsNewOver c.in-Ok.tables) (λ engine. CanPerform g.P.Keeper engine c.attach.new.self)
+    (λ engine new. record {
+      ready = new.ready;
+      running = new.running;
       attached = record {
         reachable = c.in-Ok.ensures.attached.1 refl;
         running = not-stopped (g.P.Keeper.stopped c.attach.new.self) c.in-Ok.ensures.stopped.0 (λ e. cc);
       };
-    }) c.start.ensures.can
+    }) c.start.ensures.ok
+
+pub returns-in-Ok-clause-session : goal.returns-in-Ok-clause-session
+returns-in-Ok-clause-session g c =
+    if-ok c.start.result (IsNewOver c.in-Ok.tables) (λ engine. engine.session ≡ no_session) (λ engine new. new.session) c.start.ensures.ok
 
 pub returns-in-Ok-clause-represents : goal.returns-in-Ok-clause-represents
 returns-in-Ok-clause-represents g c =
-    if-ok c.start.result (λ engine. Represents engine c.in-Ok.tables)
+    if-ok c.start.result (IsNewOver c.in-Ok.tables)
     (λ engine. IfTold g.P.Keeper c.args.keeper.now c.attach.new.self (λ t. Represents engine t))
-    (λ engine represents. λ honest t told.
-    subst (λ (u : Tables). Represents engine u) (sym (c.in-Ok.ensures.given honest t told)) represents)
-    c.start.ensures.represents
+    (λ engine new. λ honest t told.
+    subst (λ (u : Tables). Represents engine u) (sym (c.in-Ok.ensures.given honest t told)) new.represents)
+    c.start.ensures.ok
 
 pub returns-in-Ok-clause-short : goal.returns-in-Ok-clause-short
 returns-in-Ok-clause-short g c =
-    if-ok-on c.start.result (damage_of c.in-Ok.tables ≡ None) (λ engine. Represents engine c.in-Ok.tables) HasShortTexts
-    (λ engine none represents. short-texts c.in-Ok.tables engine none represents) c.start.ensures.undamaged c.start.ensures.represents
+    if-ok-on c.start.result (damage_of c.in-Ok.tables ≡ None) (IsNewOver c.in-Ok.tables) HasShortTexts
+    (λ engine none new. short-texts c.in-Ok.tables engine none new.represents) c.start.ensures.undamaged c.start.ensures.ok
 
 pub returns-in-Ok-clause-sure : goal.returns-in-Ok-clause-sure
 returns-in-Ok-clause-sure g c =

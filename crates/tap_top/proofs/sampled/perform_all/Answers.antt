@@ -30,29 +30,29 @@ loop-command-preserved g c = record {
       omega arith);
   performing = λ t honest at. Performing-more c.args.commands _ c.in-Some.command _ t _ _ c.loop-command.tally _ (EngineMatchesKeeper
       c.perform_one.new.engine (g.P.Keeper.tells c.perform_one.new.keeper) (g.P.Keeper.may_leave c.perform_one.new.keeper))
-      c.in-Ok.counted _ (c.loop-command.invariant.performing t (c.in-Ok.ensures.frame.keeper.before honest) at)
+      c.in-Ok.counted _ (c.loop-command.invariant.performing t (c.in-Ok.ensures.leaves.keeper.before honest) at)
       c.in-Some.ensures.steps.0 (λ x there. c.in-Ok.ensures.ok x honest there);
   can = c.in-Ok.ensures.can;
   keeper = KeeperFrame-then g.P.Keeper _ _ _
-      c.loop-command.invariant.can.attached.running c.loop-command.invariant.keeper c.in-Ok.ensures.frame.keeper;
+      c.loop-command.invariant.can.attached.running c.loop-command.invariant.keeper c.in-Ok.ensures.leaves.keeper;
   version = λ t honest at v has.
-      let done = (c.loop-command.invariant.performing t (c.in-Ok.ensures.frame.keeper.before honest) at).performed in
-      c.in-Ok.ensures.frame.version done.tables' honest done.ends.0 c.in-Ok.ensures.can.attached.running v
-      (c.loop-command.invariant.version t (c.in-Ok.ensures.frame.keeper.before honest) at v has);
+      let done = (c.loop-command.invariant.performing t (c.in-Ok.ensures.leaves.keeper.before honest) at).performed in
+      c.in-Ok.ensures.leaves.version done.tables' honest done.ends.0 c.in-Ok.ensures.can.attached.running v
+      (c.loop-command.invariant.version t (c.in-Ok.ensures.leaves.keeper.before honest) at v has);
 }
 
 pub returns-in-Err-Keeper-clause-keeper : goal.returns-in-Err-Keeper-clause-keeper
 returns-in-Err-Keeper-clause-keeper g c = λ _ t honest at.
     Performing-uncommitted c.args.commands _ c.in-Some.command _ t _
     (EngineMatchesKeeper c.loop-command.engine (g.P.Keeper.tells c.loop-command.keeper) (g.P.Keeper.may_leave c.loop-command.keeper))
-    c.loop-command.tally _ _ (c.loop-command.invariant.performing t (c.in-Err-Keeper.ensures.frame.keeper.before honest) at)
+    c.loop-command.tally _ _ (c.loop-command.invariant.performing t (c.in-Err-Keeper.ensures.leaves.keeper.before honest) at)
     c.in-Some.ensures.steps.0 (λ x there. c.in-Err-Keeper.ensures.keeper (ap Err c.in-Err-Keeper.field-0-is) x honest there)
 
 pub returns-in-Err-Memory-clause-memory : goal.returns-in-Err-Memory-clause-memory
 returns-in-Err-Memory-clause-memory g c = λ _ t honest at.
     Performing-short c.args.commands _ c.in-Some.command _ t _
     (EngineMatchesKeeper c.loop-command.engine (g.P.Keeper.tells c.loop-command.keeper) (g.P.Keeper.may_leave c.loop-command.keeper))
-    c.loop-command.tally _ _ (c.loop-command.invariant.performing t (c.in-Err-Memory.ensures.frame.keeper.before honest) at)
+    c.loop-command.tally _ _ (c.loop-command.invariant.performing t (c.in-Err-Memory.ensures.leaves.keeper.before honest) at)
     c.in-Some.ensures.steps.0 (λ x there. c.in-Err-Memory.ensures.memory (ap Err c.in-Err-Memory.field-0-is) x honest there)
 
 pub returns-clause-ok : goal.returns-clause-ok
@@ -62,28 +62,34 @@ returns-clause-ok g c = λ t honest at.
     c.loop-command.tally _ (c.loop-command.invariant.performing t honest at)
     (none-left _ (sym c.loop-command.invariant.len ∙ c.in-None.ensures.steps.0))
 
-pub returns-in-Err-Keeper-clause-frame : goal.returns-in-Err-Keeper-clause-frame
-returns-in-Err-Keeper-clause-frame g c = record {
+pub returns-in-Err-Keeper-clause-leaves : goal.returns-in-Err-Keeper-clause-leaves
+returns-in-Err-Keeper-clause-leaves g c = record {
+  cause = search rules;
+  stopped = search rules;
   keeper = KeeperFrame-then g.P.Keeper _ _ _
-      c.loop-command.invariant.can.attached.running c.loop-command.invariant.keeper c.in-Err-Keeper.ensures.frame.keeper;
+      c.loop-command.invariant.can.attached.running c.loop-command.invariant.keeper c.in-Err-Keeper.ensures.leaves.keeper;
   version = λ t honest at runs v has.
-      let done = (c.loop-command.invariant.performing t (c.in-Err-Keeper.ensures.frame.keeper.before honest) at).performed in
-      c.in-Err-Keeper.ensures.frame.version done.tables' honest done.ends.0 runs v
-      (c.loop-command.invariant.version t (c.in-Err-Keeper.ensures.frame.keeper.before honest) at v has);
+      let done = (c.loop-command.invariant.performing t (c.in-Err-Keeper.ensures.leaves.keeper.before honest) at).performed in
+      c.in-Err-Keeper.ensures.leaves.version done.tables' honest done.ends.0 runs v
+      (c.loop-command.invariant.version t (c.in-Err-Keeper.ensures.leaves.keeper.before honest) at v has);
 }
 
-pub returns-in-Err-Memory-clause-frame : goal.returns-in-Err-Memory-clause-frame
-returns-in-Err-Memory-clause-frame g c = record {
+pub returns-in-Err-Memory-clause-leaves : goal.returns-in-Err-Memory-clause-leaves
+returns-in-Err-Memory-clause-leaves g c = record {
+  cause = search rules;
+  stopped = search rules;
   keeper = KeeperFrame-then g.P.Keeper _ _ _
-      c.loop-command.invariant.can.attached.running c.loop-command.invariant.keeper c.in-Err-Memory.ensures.frame.keeper;
+      c.loop-command.invariant.can.attached.running c.loop-command.invariant.keeper c.in-Err-Memory.ensures.leaves.keeper;
   version = λ t honest at runs v has.
-      let done = (c.loop-command.invariant.performing t (c.in-Err-Memory.ensures.frame.keeper.before honest) at).performed in
-      c.in-Err-Memory.ensures.frame.version done.tables' honest done.ends.0 runs v
-      (c.loop-command.invariant.version t (c.in-Err-Memory.ensures.frame.keeper.before honest) at v has);
+      let done = (c.loop-command.invariant.performing t (c.in-Err-Memory.ensures.leaves.keeper.before honest) at).performed in
+      c.in-Err-Memory.ensures.leaves.version done.tables' honest done.ends.0 runs v
+      (c.loop-command.invariant.version t (c.in-Err-Memory.ensures.leaves.keeper.before honest) at v has);
 }
 
-pub returns-clause-frame : goal.returns-clause-frame
-returns-clause-frame g c = record {
+pub returns-clause-leaves : goal.returns-clause-leaves
+returns-clause-leaves g c = record {
+  cause = search rules;
+  stopped = search rules;
   keeper = c.loop-command.invariant.keeper;
   version = λ t honest at runs v has. c.loop-command.invariant.version t honest at v has;
 }

@@ -36,22 +36,28 @@ returns-clause-memory g c = λ _ t honest at.
     at.sound (c.in-Ok.ensures.step t at.represents (sound-for c.args.command t c.args.engine.now.session at.sound))
     (c.in-Ok.ensures.kept t at.represents (sound-for c.args.command t c.args.engine.now.session at.sound) honest at.holds)
 
-pub returns-in-Err-KeeperFailed-clause-frame : goal.returns-in-Err-KeeperFailed-clause-frame
-returns-in-Err-KeeperFailed-clause-frame g c = record {
+pub returns-in-Err-KeeperFailed-clause-leaves : goal.returns-in-Err-KeeperFailed-clause-leaves
+returns-in-Err-KeeperFailed-clause-leaves g c = record {
+  cause = search rules;
+  stopped = search rules;
   keeper = search rules;
   version = λ t honest at. c.in-Err-KeeperFailed.ensures.version t
       at.represents (sound-for c.args.command t c.args.engine.now.session at.sound) honest at.holds.told;
 }
 
-pub returns-in-Some-clause-frame : goal.returns-in-Some-clause-frame
-returns-in-Some-clause-frame g c = record {
+pub returns-in-Some-clause-leaves : goal.returns-in-Some-clause-leaves
+returns-in-Some-clause-leaves g c = record {
+  cause = search rules;
+  stopped = search rules;
   keeper = search rules;
   version = λ t honest at.
       c.in-Ok.ensures.version t at.represents (sound-for c.args.command t c.args.engine.now.session at.sound) honest at.holds.told;
 }
 
-pub returns-clause-frame : goal.returns-clause-frame
-returns-clause-frame g c = record {
+pub returns-clause-leaves : goal.returns-clause-leaves
+returns-clause-leaves g c = record {
+  cause = search rules;
+  stopped = search rules;
   keeper = search rules;
   version = λ t honest at.
       c.in-Ok.ensures.version t at.represents (sound-for c.args.command t c.args.engine.now.session at.sound) honest at.holds.told;

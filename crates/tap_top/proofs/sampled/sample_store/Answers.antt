@@ -10,7 +10,7 @@ use Rattle.tap_top.proofs.sampled.sample_store.Goals as goal
 
 pub returns-in-Ok-clause-sample : goal.returns-in-Ok-clause-sample
 returns-in-Ok-clause-sample g c = λ t honest holds store.
-    let opened = c.run_sample-status.ensures.frame.keeper.before honest in
+    let opened = c.run_sample-status.ensures.leaves.keeper.before honest in
     let at = opened-at c.in-Ok.engine _ _ t c.in-Ok.ensures.session (c.in-Ok.ensures.represents opened t holds.told)
     (c.in-Ok.ensures.kept opened t holds.told c.in-Ok.ensures.can.attached.running) store in
     sample-ends t c.args.n _ _ (g.P.Keeper.has_version c.args.keeper.now) (g.P.Keeper.tells c.run_sample-status.new.keeper)
@@ -70,14 +70,14 @@ returns-in-Err-Memory-clause-refusals g c = λ left. record {
 
 pub returns-in-Ok-clause-version : goal.returns-in-Ok-clause-version
 returns-in-Ok-clause-version g c = λ t honest holds store.
-    let opened = c.run_sample-status.ensures.frame.keeper.before honest in
+    let opened = c.run_sample-status.ensures.leaves.keeper.before honest in
     let at = opened-at c.in-Ok.engine _ _ t c.in-Ok.ensures.session (c.in-Ok.ensures.represents opened t holds.told)
     (c.in-Ok.ensures.kept opened t holds.told c.in-Ok.ensures.can.attached.running) store in
     exit-run (code_of c.run_sample-status.result) (g.P.Keeper.stopped c.run_sample-status.new.keeper)
     (g.P.Keeper.has_version c.args.keeper.now) (g.P.Keeper.has_version c.run_sample-status.new.keeper)
     (sample-not-two c.run_sample-status.result c.run_sample-status.ensures.statuses) (λ halts.
-    ap code_of (c.run_sample-status.ensures.stopped.0 halts))
-    (λ runs. c.run_sample-status.ensures.frame.version t honest at runs _ (c.in-Ok.ensures.version opened t holds.told))
+    ap code_of (c.run_sample-status.ensures.leaves.stopped.0 halts))
+    (λ runs. c.run_sample-status.ensures.leaves.version t honest at runs _ (c.in-Ok.ensures.version opened t holds.told))
     (c.in-Ok.ensures.known opened)
 
 pub returns-in-Err-Refused-clause-version : goal.returns-in-Err-Refused-clause-version

@@ -12,7 +12,7 @@ use Rattle.tap_top.proofs.top.run_store.Goals as goal
 
 pub returns-in-Ok-clause-script : goal.returns-in-Ok-clause-script
 returns-in-Ok-clause-script g c = λ t honest holds store.
-    let opened = c.run-status.ensures.frame.keeper.before honest in
+    let opened = c.run-status.ensures.leaves.keeper.before honest in
     let at = opened-at c.in-Ok.engine _ _ t c.in-Ok.ensures.session (c.in-Ok.ensures.represents opened t holds.told)
     (c.in-Ok.ensures.kept opened t holds.told c.in-Ok.ensures.can.attached.running) store in
     script-ends t _ _ _ _ (g.P.Keeper.has_version c.args.keeper.now) (g.P.Keeper.tells c.run-status.new.keeper)
@@ -80,13 +80,13 @@ returns-in-Err-Memory-clause-refusals g c = record {
 
 pub returns-in-Ok-clause-version : goal.returns-in-Ok-clause-version
 returns-in-Ok-clause-version g c = λ t honest holds store.
-    let opened = c.run-status.ensures.frame.keeper.before honest in
+    let opened = c.run-status.ensures.leaves.keeper.before honest in
     let at = opened-at c.in-Ok.engine _ _ t c.in-Ok.ensures.session (c.in-Ok.ensures.represents opened t holds.told)
     (c.in-Ok.ensures.kept opened t holds.told c.in-Ok.ensures.can.attached.running) store in
     exit-run (code_of c.run-status.result) (g.P.Keeper.stopped c.run-status.new.keeper) (g.P.Keeper.has_version c.args.keeper.now)
     (g.P.Keeper.has_version c.run-status.new.keeper)
-    (run-not-two c.run-status.result c.run-status.ensures.statuses) (λ halts. ap code_of (c.run-status.ensures.stopped.0 halts))
-    (λ runs. c.run-status.ensures.frame.version t honest at runs _ (c.in-Ok.ensures.version opened t holds.told))
+    (run-not-two c.run-status.result c.run-status.ensures.statuses) (λ halts. ap code_of (c.run-status.ensures.leaves.stopped.0 halts))
+    (λ runs. c.run-status.ensures.leaves.version t honest at runs _ (c.in-Ok.ensures.version opened t holds.told))
     (c.in-Ok.ensures.known opened)
 
 pub returns-in-Err-Refused-clause-version : goal.returns-in-Err-Refused-clause-version
@@ -104,7 +104,7 @@ returns-in-Err-Memory-clause-version g c =
 
 pub returns-in-Ok-clause-prompt : goal.returns-in-Ok-clause-prompt
 returns-in-Ok-clause-prompt g c = λ t honest holds store.
-    let opened = c.run-status.ensures.frame.keeper.before honest in
+    let opened = c.run-status.ensures.leaves.keeper.before honest in
     let at = opened-at c.in-Ok.engine _ _ t c.in-Ok.ensures.session (c.in-Ok.ensures.represents opened t holds.told)
     (c.in-Ok.ensures.kept opened t holds.told c.in-Ok.ensures.can.attached.running) store in
     c.run-status.ensures.prompt t honest at

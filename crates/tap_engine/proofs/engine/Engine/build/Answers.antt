@@ -91,10 +91,12 @@ returns c =
       greatest = c.in_ok-sums.ensures.greatest;
     } in
     record {
-      represents = subst (λ tables. Represents e tables) c.into_parts-tables.ensures.tables (represents-start e t is);
-      session = is.session;
-      running = refl;
-      ready = ready-start e t is (from-sound t c.args.sound c.into_parts-tables.ensures.tables c.into_parts-tables.ensures.formed);
+      ok = record {
+        represents = subst (λ tables. Represents e tables) c.into_parts-tables.ensures.tables (represents-start e t is);
+        session = is.session;
+        running = refl;
+        ready = ready-start e t is (from-sound t c.args.sound c.into_parts-tables.ensures.tables c.into_parts-tables.ensures.formed);
+      };
       read = search rules;
       fault = tt;
     }
