@@ -1,3 +1,4 @@
 pub mod Letters
 pub mod Served
 pub mod Prompt
+pub mod Conclusions

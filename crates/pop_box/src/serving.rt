@@ -1,20 +1,20 @@
 //! The top call: reads the words, opens the store, and holds a session over the letters of a box.
-ghost use Rattle.std.specs.Prelude.{◌≡◌, ◌≢◌, ◌≤◌, ◌⊎◌, ℕ, List, [], Option, Some, None, false};
+ghost use Rattle.std.specs.Prelude.{◌≡◌, ◌≢◌, ◌≤◌, ◌⊎◌, ℕ, List, Option, Some, None};
 ghost use Rattle.std.specs.List.{All};
 ghost use Rattle.std.specs.Str.{IsUtf8};
 ghost use Rattle.std.specs.Io.KnownBytes.{IsAtEnd};
-ghost use Rattle.clap.specs.Words.{takes, fault_of as faults_of};
-ghost use Rattle.command_words.specs.PopOptions.{pop_app};
 ghost use Rattle.command_words.specs.PopWords.{pop_path_in, user_in, box_in, secret_in};
 ghost use Rattle.command_words.specs.PopWords.{IsPopWorded};
 ghost use Rattle.command_words.specs.WellWorded.{path_or_default};
-ghost use Rattle.keeper_core.specs.States.{IsFree, IsPlacedUnless, IsPlacedBy};
+ghost use Rattle.keeper_core.specs.States.{IsFree, IsPlacedUnless};
 ghost use Rattle.tap_top.specs.Points.{CanOpen};
 ghost use Rattle.tap_top.specs.Premises.{FromDurable, FromStore, IfCalm};
 ghost use Rattle.tap_top.specs.Refusals.{Refusals};
 ghost use Rattle.tap_top.specs.Versions.{VersionAtExit};
 ghost use Rattle.tap_top.specs.Opened.{HasShortTexts};
 ghost use Rattle.tap_top.specs.Causes.{Causes};
+ghost use Rattle.tap_top.specs.Conclusions.{RunLeaves};
+ghost use Rattle.pop_box.specs.Conclusions.{PopEnds, PopEndsOver};
 ghost use Rattle.pop_box.specs.Letters.{letters_in};
 ghost use Rattle.tap_engine.specs.Standing.{OverSound};
 ghost use Rattle.pop_session.specs.Ends.{IsSession, PassedSessionLimit, SessionCauses};
@@ -152,61 +152,32 @@ pub fn serve<S: Peer<K>, K: Sink, P: Keeper, L: Ledger>(
     requires free { IsFree P.Keeper keeper.old }
     requires texts { All IsUtf8 words.now }
 
-    // The words of the command line.
-    ensures words { result ≡ 2 → takes pop_app words.now ≡ false }
-    ensures exact { result ≡ 2 → faults_of pop_app words.now ≢ [] }
-    ensures worded { (path : Option (List ℕ)) (user name secret : List ℕ)
-        → IsPopWorded words.now path user name secret → result ≢ 2 }
-    ensures faulty { (result ≡ 2) ⊎ ((result ≡ 7) ⊎ (faults_of pop_app words.now ≡ [])) }
-    ensures nothing { result ≡ 2 →
-        (keeper.new ≡ keeper.old)
-        × ((K.out sink.new ≡ K.out sink.old) × (S.left source.new ≡ S.left source.old)) }
-    ensures path { IsPlacedBy result (P.path keeper.old) (P.path keeper.new)
-        (pop_path_in words.now) }
+    // When each status comes, and what was read and written, whatever the store is.
+    ensures ends { PopEnds words.now result (S.left source.old) (S.left source.new)
+        (K.out sink.old) (K.out sink.new) (S.faults source.old) (S.faults source.new)
+        (K.faults sink.old) (K.faults sink.new) }
+
+    // Over the tables of a store: how the box was served, that the tables are unchanged, with which
+    // version, and when the store is refused.
+    ensures over { FromDurable P.Keeper keeper.old keeper.new (λ t. PopEndsOver words.now result
+        (S.left source.old) (S.left source.new) (K.out sink.old) (K.out sink.new)
+        (S.was_asked source.old) (S.was_asked source.new) t (P.has_version keeper.old)
+        (P.has_version keeper.new) (P.tells keeper.new) (P.may_leave keeper.new)) }
+
+    // Where the keeper is, and when it has failed.
+    ensures leaves { RunLeaves P.Keeper keeper.old keeper.new result (pop_path_in words.now) }
+
+    // What well-worded words ask for.
     ensures named { (path : Option (List ℕ)) (user name secret : List ℕ)
         → IsPopWorded words.now path user name secret →
         (pop_path_in words.now ≡ path_or_default path) × ((user_in words.now ≡ user)
         × ((box_in words.now ≡ name) × (secret_in words.now ≡ secret))) }
 
-    // A box of a store that a session left: how it was served, by the status.
-    ensures session { FromStore P.Keeper keeper.old keeper.new (λ t.
-        Served result (letters_in (user_in words.now) (box_in words.now) t) (user_in words.now)
-        (secret_in words.now)
-        (S.left source.old) (S.left source.new) (K.out sink.old) (K.out sink.new)
-        (P.has_version keeper.old)) }
-
-    // Over such a store, whenever the source was asked for more, the greeting and the replies to
-    // all requests that were complete in the bytes taken so far were out, whole, and nothing else;
-    // and no QUIT among them was accepted.
-    ensures prompt { FromStore P.Keeper keeper.old keeper.new (λ t.
-        AskedUpToDate (letters_in (user_in words.now) (box_in words.now) t) (user_in words.now)
-        (secret_in words.now)
-        (S.left source.old) (K.out sink.old) (S.was_asked source.old) (S.was_asked source.new)) }
-
-    // Whatever the store holds, its tables are unchanged, and, unless the keeper failed, its
-    // version is the one before, or 2 if that was 1.
-    ensures unchanged { FromDurable P.Keeper keeper.old keeper.new (λ t.
-        Unchanged result t (P.tells keeper.new) (P.may_leave keeper.new)) }
-    ensures version { FromDurable P.Keeper keeper.old keeper.new (λ t.
-        VersionAtExit result (P.has_version keeper.old) (P.has_version keeper.new)) }
-
-    // A store is refused if and only if its version isn't known or one of its rows is damaged.
-    ensures refusals { Refusals P.Keeper keeper.old keeper.new result
-        (S.left source.old) (S.left source.new) (K.out sink.old) (K.out sink.new) }
-
-    // When each status comes.
-    ensures causes { Causes result (S.faults source.old) (S.faults source.new) (K.faults sink.old)
-        (K.faults sink.new)
-        (P.faults keeper.old) (P.faults keeper.new) (P.stopped keeper.new) }
-    ensures many { result ≡ 8 → PassedSessionLimit (S.left source.old) (S.left source.new) }
-    ensures quit { result ≡ 0 → TookQuit (user_in words.now) (secret_in words.now)
-        (S.left source.old) (S.left source.new) }
-    ensures ended { result ≡ 1 → IsAtEnd (S.left source.new) }
+    // If nothing fails, the session ends by itself.
     ensures complete { (path : Option (List ℕ)) (user name secret : List ℕ)
         → IsPopWorded words.now path user name secret →
         IfCalm (S.faults source.old) (S.faults source.new) (K.faults sink.old) (K.faults sink.new)
         (P.faults keeper.old) (P.faults keeper.new) (IsUndisturbedSession result) }
-    ensures statuses { result ≤ 9 }
 {
     let asked = match read_pop_words(alloc, words) {
         Ok(asked) => asked,

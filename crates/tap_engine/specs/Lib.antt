@@ -3,6 +3,7 @@ pub mod Standing
 pub mod Ready
 pub mod Started
 pub mod Answering
+pub mod Performing
 pub mod FilterChecks
 pub mod Lists
 pub mod Costs

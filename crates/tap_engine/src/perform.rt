@@ -1,16 +1,7 @@
 //! One command, one step, one commit: what a command is answered, and what it changes.
 
-ghost use Rattle.std.specs.Prelude.{◌≡◌, ◌⊎◌, ◌↔◌, ◌≤◌, ℤ, None, true, false, codes, OnOk, OnErr};
-ghost use Rattle.std.specs.Prelude.{IsErr, IfOk, IfErr};
-ghost use Rattle.tap_rows.specs.declared.tables.Tables.{Tables};
-ghost use Rattle.keeper_core.specs.Keeping.{IsDurable};
+ghost use Rattle.std.specs.Prelude.{◌≡◌, false, OnErr, IfOk, IfErr};
 ghost use Rattle.keeper_core.specs.States.{IsAttached};
-ghost use Rattle.tap_base.specs.Counts.{Rose};
-ghost use Rattle.script_lang.specs.Proper.{is_proper};
-ghost use Rattle.script_lang.specs.Replies.{HasShortNames, first_text, is_accepted};
-ghost use Rattle.tap_model.specs.Replies.{answer_of, tables_after};
-ghost use Rattle.tap_model.specs.Stories.{StoryStep, GivesUp, next_tables};
-ghost use Rattle.tap_model.specs.Verdicts.{verdict};
 
 use crate::engine::Engine;
 use crate::fault::EngineFault;
@@ -22,11 +13,10 @@ use std::sync::ledger::Ledger;
 use tap_base::Steps;
 
 impl Engine {
-    ghost use Rattle.tap_engine.specs.Standing.{Represents, OverSoundFor};
     ghost use Rattle.tap_engine.specs.Ready.{IsReady};
-    ghost use Rattle.tap_engine.specs.Answering.{Prepares, RefusesSoundly, AddsRows};
+    ghost use Rattle.tap_engine.specs.Answering.{Prepares, RefusesSoundly};
+    ghost use Rattle.tap_engine.specs.Performing.{Performs, CommitsStep, FailsByKeeper};
     ghost use Rattle.tap_engine.specs.Answering.{IsUnchangedButHits, fault_answer, fault_engine};
-    ghost use Rattle.tap_engine.specs.Costs.{TakesNoStep, TakesRowsDue, TakesAtMost};
     ghost use Rattle.tap_engine.specs.Costs.{TakesFewSteps};
 
     // Takes all memory that a command needs, and adds its rows to the engine, unless the command is
@@ -110,59 +100,18 @@ impl Engine {
 
         // The reply and the step, over the tables that the engine represents. What was delivered
         // matters only to a command that looks at it.
-        ensures step { OverSoundFor self.old command (λ t. IfOk result (λ reply.
-            StoryStep t self.old.session command reply
-            (next_tables command reply self.old.session t) self.new.session)) }
-        ensures represents { OverSoundFor self.old command (λ t. IfOk result (λ reply.
-            Represents self.new (next_tables command reply self.old.session t))) }
-        ensures memory { OverSoundFor self.old command (λ t. is_proper command ≡ true
-            → IfOk result (λ reply. first_text reply ≡ codes "no 18" →
-            GivesUp t self.old.session command reply (next_tables command reply self.old.session t)
-            self.new.session)) }
-        ensures short { IfOk result (λ reply. HasShortNames reply) }
-        ensures ready { OnOk result (IsReady self.new) }
-
-        // A command that is refused or out of memory changes nothing in the engine but its buffer
-        // of hits, and, if the keeper is honest, none of the tables that it tells, whatever these
-        // are.
-        ensures refused { IfOk result (λ reply. is_accepted reply ≡ false
-            → IsUnchangedButHits self.new self.old) }
-        ensures untouched { IfOk result (λ reply. is_accepted reply ≡ false → P.honest keeper.new
-            → (t : Tables) → P.tells keeper.old t →
-            IsDurable (P.tells keeper.new) (P.may_leave keeper.new) t) }
+        ensures answer { Performs self.old command result self.new }
 
         // The rows that it takes from the index, whatever the answer is.
-        ensures quiet { TakesNoStep self.old command steps.old steps.new }
-        ensures due { TakesRowsDue self.old command steps.old steps.new }
-        ensures most { TakesAtMost self.old command steps.old steps.new }
+        ensures steps { TakesFewSteps self.old command steps.old steps.new }
 
         // What the keeper's store has, what a crash leaves, and the store's version, if the keeper
         // is honest.
-        ensures kept { OverSoundFor self.old command (λ t. P.honest keeper.new
-            → IsDurable (P.tells keeper.old) (P.may_leave keeper.old) t →
-            IfOk result (λ reply.
-            IsDurable (P.tells keeper.new) (P.may_leave keeper.new)
-            (next_tables command reply self.old.session t))) }
-        ensures crash { OverSoundFor self.old command (λ t. P.honest keeper.new
-            → IsDurable (P.tells keeper.old) (P.may_leave keeper.old) t →
-            OnErr result ((verdict command self.old.session t ≡ None)
-            × ((x : Tables) → P.may_leave keeper.new x →
-            (x ≡ t) ⊎ (x ≡ tables_after (answer_of command self.old.session t).change t)))) }
-
-        ensures version { OverSoundFor self.old command (λ t. P.honest keeper.new
-            → P.tells keeper.old t → P.stopped keeper.new ≡ false →
-            (v : ℤ) → P.has_version keeper.old v → P.has_version keeper.new v) }
+        ensures stores { CommitsStep P.Keeper self.old command result keeper.old keeper.new }
 
         // It fails only if the keeper fails, and only for a command that adds rows.
-        ensures adds { OverSoundFor self.old command (λ t.
-            OnErr result (AddsRows command self.old.session t)) }
-        ensures cause { OnErr result (Rose (P.faults keeper.old) (P.faults keeper.new)) }
-        ensures stopped { (P.stopped keeper.new ≡ true) ↔ IsErr result }
-        ensures halted { self.new.stopped ≡ P.stopped keeper.new }
-        ensures same { (P.path keeper.new ≡ P.path keeper.old) × (P.attached keeper.new ≡ true) }
-        ensures later { P.faults keeper.old ≤ P.faults keeper.new }
-        ensures calm { P.stopped keeper.new ≡ false → P.faults keeper.new ≡ P.faults keeper.old }
-        ensures honest { P.honest keeper.new → P.honest keeper.old }
+        ensures keeper { FailsByKeeper P.Keeper self.old command result self.new
+            keeper.old keeper.new }
     {
         let Prepared {
             reply,

@@ -13,4 +13,5 @@ pub mod Crashes
 pub mod Samples
 pub mod Ends
 pub mod Causes
+pub mod Conclusions
 pub mod Chains

@@ -1,28 +1,27 @@
 //! The top call: reads the words, opens the store, and performs a script or a sample over it.
-ghost use Rattle.std.specs.Prelude.{◌≡◌, ◌≢◌, ◌≤◌, ◌⊎◌, ◌&&◌, ◌==◌};
-ghost use Rattle.std.specs.Prelude.{ℕ, List, [], Option, Some, None, true, false, min};
+ghost use Rattle.std.specs.Prelude.{◌≡◌, ◌≢◌, ◌≤◌, ◌&&◌, ◌==◌};
+ghost use Rattle.std.specs.Prelude.{ℕ, List, [], Option, Some, None, true, min};
 ghost use Rattle.std.specs.List.{All};
 ghost use Rattle.std.specs.Str.{IsUtf8};
 ghost use Rattle.std.specs.Io.KnownBytes.{IsAtEnd};
-ghost use Rattle.clap.specs.Words.{takes, fault_of as faults_of};
-ghost use Rattle.command_words.specs.Options.{app};
 ghost use Rattle.command_words.specs.Words.{path_in, sample_in};
 ghost use Rattle.command_words.specs.WellWorded.{IsWellWorded, path_or_default};
-ghost use Rattle.keeper_core.specs.States.{IsFree, IsPlacedUnless, IsPlacedBy};
+ghost use Rattle.keeper_core.specs.States.{IsFree, IsPlacedUnless};
 ghost use Rattle.tap_rows.specs.declared.tables.Tables.{Tables};
 ghost use Rattle.script_lang.specs.Script.{script_from};
 ghost use Rattle.tap_model.specs.Sessions.{no_session};
 ghost use Rattle.tap_model.specs.Sound.{IsStore};
 ghost use Rattle.tap_top.specs.Points.{CanOpen, CanPerform};
-ghost use Rattle.tap_top.specs.Premises.{IsDurableIn, FromEngine, FromStore, IsCalm, IfCalm};
-ghost use Rattle.tap_top.specs.Premises.{IsUndisturbed};
+ghost use Rattle.tap_top.specs.Premises.{IsDurableIn, FromEngine, FromDurable, FromStore, IsCalm};
+ghost use Rattle.tap_top.specs.Premises.{IfCalm, IsUndisturbed};
 ghost use Rattle.tap_top.specs.Versions.{VersionAtExit};
 ghost use Rattle.tap_top.specs.Answers.{Closed, ClosedCut, CutsShort};
 ghost use Rattle.tap_top.specs.Statuses.{PassedScriptLimit, HoldsScript};
 ghost use Rattle.tap_top.specs.Causes.{Causes, IsFault, LeavesKeeper};
+ghost use Rattle.tap_top.specs.Conclusions.{RunEnds, RunEndsOver, RunLeaves};
 ghost use Rattle.tap_top.specs.Prompt.{IsUpToDate};
 ghost use Rattle.peer_edges.specs.Asks.{AskedOnlyWhen};
-ghost use Rattle.tap_top.specs.Ends.{EngineScriptEnds, ScriptEnds, SampleEnds};
+ghost use Rattle.tap_top.specs.Ends.{EngineScriptEnds, ScriptEnds};
 ghost use Rattle.tap_top.specs.Refusals.{Refusals};
 ghost use Rattle.tap_top.specs.Codes.{code_of, PerformedAll, is_all_ok, IsOfClose, IsOfRun};
 
@@ -245,64 +244,27 @@ pub fn tapestry<S: Peer<K>, K: Sink, P: Keeper, L: Ledger>(
     requires free { IsFree P.Keeper keeper.old }
     requires texts { All IsUtf8 words.now }
 
-    // The words of the command line.
-    ensures words { result ≡ 2 → takes app words.now ≡ false }
-    ensures exact { result ≡ 2 → faults_of app words.now ≢ [] }
-    ensures worded { (path : Option (List ℕ)) (number : Option ℕ)
-        → IsWellWorded words.now path number → result ≢ 2 }
-    ensures faulty { (result ≡ 2) ⊎ ((result ≡ 7) ⊎ (faults_of app words.now ≡ [])) }
-    ensures nothing { result ≡ 2 →
-        (keeper.new ≡ keeper.old)
-        × ((K.out sink.new ≡ K.out sink.old) × (S.left source.new ≡ S.left source.old)) }
-    ensures path { IsPlacedBy result (P.path keeper.old) (P.path keeper.new) (path_in words.now) }
+    // When each status comes, and what was read and written, whatever the store is.
+    ensures ends { RunEnds words.now result (S.left source.old) (S.left source.new)
+        (K.out sink.old) (K.out sink.new) (S.faults source.old) (S.faults source.new)
+        (K.faults sink.old) (K.faults sink.new) }
+
+    // Over the tables of a store: how a script or a sample ended, what a crash leaves, with which
+    // version, and when the store is refused.
+    ensures over { FromDurable P.Keeper keeper.old keeper.new (λ t. RunEndsOver words.now result
+        (S.left source.old) (S.left source.new) (K.out sink.old) (K.out sink.new)
+        (S.was_asked source.old) (S.was_asked source.new) t (P.has_version keeper.old)
+        (P.has_version keeper.new) (P.tells keeper.new) (P.may_leave keeper.new)) }
+
+    // Where the keeper is, and when it has failed.
+    ensures leaves { RunLeaves P.Keeper keeper.old keeper.new result (path_in words.now) }
+
+    // What well-worded words ask for.
     ensures named { (path : Option (List ℕ)) (number : Option ℕ)
         → IsWellWorded words.now path number →
         (path_in words.now ≡ path_or_default path) × (sample_in words.now ≡ number) }
 
-    // A script over a store that a session left: how it ended, by the status, and what a crash
-    // leaves.
-    ensures script { sample_in words.now ≡ None → FromStore P.Keeper keeper.old keeper.new (λ t.
-        ScriptEnds result t (S.left source.old) (S.left source.new) (K.out sink.old)
-        (K.out sink.new)
-        (P.has_version keeper.old) (P.tells keeper.new) (P.may_leave keeper.new)) }
-
-    // Over such a store, whenever the source was asked for more, the reply to each command that was
-    // complete in the bytes taken so far was out, whole, and nothing else.
-    ensures prompt { FromStore P.Keeper keeper.old keeper.new (λ t.
-        AskedOnlyWhen (λ l o. IsUpToDate t (S.left source.old) l (K.out sink.old) o)
-        (S.was_asked source.old) (S.was_asked source.new)) }
-
-    // A sample over such a store: how it ended, by the status, and what a crash leaves; nothing is
-    // read.
-    ensures sample { (n : ℕ) → sample_in words.now ≡ Some n
-        → FromStore P.Keeper keeper.old keeper.new (λ t.
-        SampleEnds result t n (K.out sink.old) (K.out sink.new)
-        (P.has_version keeper.old) (P.tells keeper.new) (P.may_leave keeper.new)) }
-    ensures sample_silent { (n : ℕ) → sample_in words.now ≡ Some n → (result ≡ 5) ⊎ (result ≡ 7) →
-        K.out sink.new ≡ K.out sink.old }
-    ensures sample_unread { (n : ℕ) → sample_in words.now ≡ Some n →
-        (S.left source.new ≡ S.left source.old) × ((result ≢ 3) × (result ≢ 8)) }
-
-    // Whatever a crash leaves, and what the keeper tells, the next session may begin with it.
-    ensures kept { FromStore P.Keeper keeper.old keeper.new (λ t.
-        (x : Tables) → P.may_leave keeper.new x → IsStore x) }
-    ensures told { FromStore P.Keeper keeper.old keeper.new (λ t.
-        result ≢ 5 → (x : Tables) → P.tells keeper.new x → IsStore x) }
-
-    // The version of the store after.
-    ensures version { FromStore P.Keeper keeper.old keeper.new (λ t.
-        VersionAtExit result (P.has_version keeper.old) (P.has_version keeper.new)) }
-
-    // A store is refused if and only if its version isn't known or one of its rows is damaged.
-    ensures refusals { Refusals P.Keeper keeper.old keeper.new result
-        (S.left source.old) (S.left source.new) (K.out sink.old) (K.out sink.new) }
-
-    // When each status comes.
-    ensures causes { Causes result (S.faults source.old) (S.faults source.new) (K.faults sink.old)
-        (K.faults sink.new)
-        (P.faults keeper.old) (P.faults keeper.new) (P.stopped keeper.new) }
-    ensures many { result ≡ 8 → PassedScriptLimit (S.left source.old) (S.left source.new) }
-    ensures ended { sample_in words.now ≡ None → result ≤ 1 → IsAtEnd (S.left source.new) }
+    // If nothing fails, the run ends with its commands, at a refused store, or out of memory.
     ensures complete { (path : Option (List ℕ)) → IsWellWorded words.now path None
         → HoldsScript (S.left source.old) →
         IfCalm (S.faults source.old) (S.faults source.new) (K.faults sink.old) (K.faults sink.new)
@@ -312,7 +274,6 @@ pub fn tapestry<S: Peer<K>, K: Sink, P: Keeper, L: Ledger>(
         IsCalm (K.faults sink.old) (K.faults sink.new) →
         IsCalm (P.faults keeper.old) (P.faults keeper.new) →
         IsUndisturbed result }
-    ensures statuses { result ≤ 8 }
 {
     let asked = match read_words(alloc, words) {
         Ok(asked) => asked,

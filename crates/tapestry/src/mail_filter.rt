@@ -12,15 +12,15 @@ use tap_top::tapestry;
 pub struct MailFilter;
 
 impl StoreProgram for MailFilter {
-    ghost use Rattle.tapestry.specs.Sessions.{Ends, EndsOver};
+    ghost use Rattle.tap_top.specs.Conclusions.{RunEnds, RunEndsOver};
     ghost use Rattle.command_words.specs.Words.{path_in};
 
     ghost ends = { λ words status left left' out out' reads reads' puts puts'.
-        Ends words status left left' out out' reads reads' puts puts' };
+        RunEnds words status left left' out out' reads reads' puts puts' };
 
     ghost ends_over = { λ words status left left' out out' asked asked' tables versions versions'
         tells leaves.
-        EndsOver words status left left' out out' asked asked' tables versions versions' tells
+        RunEndsOver words status left left' out out' asked asked' tables versions versions' tells
         leaves };
 
     ghost path = { λ words. path_in words };

@@ -12,7 +12,7 @@ use tap_edges::Sink;
 pub struct PopServer;
 
 impl StoreProgram for PopServer {
-    ghost use Rattle.tapestry_pop.specs.Sessions.{PopEnds, PopEndsOver};
+    ghost use Rattle.pop_box.specs.Conclusions.{PopEnds, PopEndsOver};
     ghost use Rattle.command_words.specs.PopWords.{pop_path_in};
 
     ghost ends = { λ words status left left' out out' reads reads' puts puts'.

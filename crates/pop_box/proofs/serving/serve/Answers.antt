@@ -19,24 +19,85 @@ placed-by : (status : ℕ) (now old at named : List ℕ) → at ≡ named → ((
 placed-by status now old at named same (inl (out, stays)) = inl (inr out, stays)
 placed-by status now old at named same (inr placed) = inr (placed ∙ same)
 
-pub returns-clause-path : goal.returns-clause-path
-returns-clause-path g c = placed-by _ _ _ _ _ c.in-Ok.ensures.path c.serve_box.ensures.path
+pub returns-in-Err-Refused-clause-ends : goal.returns-in-Err-Refused-clause-ends
+returns-in-Err-Refused-clause-ends g c = record {
+  untaken = λ _. not-stopped (takes pop_app c.args.words.now) c.in-Err-Refused.ensures.taken
+      (not-both c.in-Err-Refused.field-0 c.in-Err-Refused.field-0-is);
+  exact = λ _. c.in-Err-Refused.ensures.refused c.in-Err-Refused.field-0-is;
+  worded = λ path user name secret worded _. not-both c.in-Err-Refused.field-0 c.in-Err-Refused.field-0-is
+      (c.in-Err-Refused.ensures.fine path user name secret worded);
+  faulty = search rules;
+  nothing = search rules;
+  read_cause = search rules;
+  read_calm = search rules;
+  put_cause = search rules;
+  put_calm = search rules;
+  many = search rules;
+  quit = search rules;
+  ended = search rules;
+  statuses = search rules;
+}
 
-pub returns-in-Err-Refused-clause-exact : goal.returns-in-Err-Refused-clause-exact
-returns-in-Err-Refused-clause-exact g c = λ _. c.in-Err-Refused.ensures.refused c.in-Err-Refused.field-0-is
+pub returns-clause-ends : goal.returns-clause-ends
+returns-clause-ends g c = record {
+  untaken = search rules;
+  exact = search rules;
+  worded = search rules;
+  faulty = search rules;
+  nothing = search rules;
+  read_cause = search rules;
+  read_calm = search rules;
+  put_cause = search rules;
+  put_calm = search rules;
+  many = search rules;
+  quit = took-quit-words c.serve_box.result _ _ _ _ _ _ c.in-Ok.ensures.user c.in-Ok.ensures.secret c.serve_box.ensures.quit;
+  ended = search rules;
+  statuses = search rules;
+}
 
-pub returns-in-Err-Refused-clause-session : goal.returns-in-Err-Refused-clause-session
-returns-in-Err-Refused-clause-session g c = λ t honest holds store. unserved 2 _ _ _ _ _ _ _ _ (inl refl) (λ e. cc) refl refl
+pub returns-clause-leaves : goal.returns-clause-leaves
+returns-clause-leaves g c = record {
+  keeper_cause = search rules;
+  keeper_calm = search rules;
+  stopped = search rules;
+  placed = placed-by _ _ _ _ _ c.in-Ok.ensures.path c.serve_box.ensures.path;
+  unattached = search rules;
+}
 
-pub returns-in-Err-Refused-clause-unchanged : goal.returns-in-Err-Refused-clause-unchanged
-returns-in-Err-Refused-clause-unchanged g c = λ t honest holds. record { exact = holds.exact; told = λ _. holds.told }
-
-pub returns-in-Err-Refused-clause-refusals : goal.returns-in-Err-Refused-clause-refusals
-returns-in-Err-Refused-clause-refusals g c = record {
-  refused =
-      λ t honest holds v version fault is. Refused-none 2 fault _ _ _ _ _ _ t (inl refl) (λ e. cc) refl refl (λ _. holds.told) holds.exact;
+pub returns-in-Err-Refused-clause-over : goal.returns-in-Err-Refused-clause-over
+returns-in-Err-Refused-clause-over g c = λ t honest holds. record {
+  session = λ store. unserved 2 _ _ _ _ _ _ _ _ (inl refl) (λ e. cc) refl refl;
+  prompt = λ store. unasked _ _;
+  unchanged = record { exact = holds.exact; told = λ _. holds.told };
+  version = exit-words _;
+  refused = λ v has fault is. Refused-none 2 fault _ _ _ _ _ _ t (inl refl) (λ e. cc) refl refl (λ _. holds.told) holds.exact;
   fine = search rules;
   known = search rules;
+}
+
+pub returns-in-Err-Memory-clause-over : goal.returns-in-Err-Memory-clause-over
+returns-in-Err-Memory-clause-over g c = λ t honest holds. record {
+  session = λ store. unserved 7 _ _ _ _ _ _ _ _ (inr (inr (inr refl))) (λ e. cc) refl refl;
+  prompt = λ store. unasked _ _;
+  unchanged = record { exact = holds.exact; told = λ _. holds.told };
+  version = exit-unopened _;
+  refused = λ v has fault is. Refused-none 7 fault _ _ _ _ _ _ t (inr (inr (inr (inr refl)))) (λ e. cc) refl refl
+      (λ _. holds.told) holds.exact;
+  fine = search rules;
+  known = search rules;
+}
+
+pub returns-clause-over : goal.returns-clause-over
+returns-clause-over g c = λ t honest holds. record {
+  session = λ store. served-words c.serve_box.result t _ _ _ _ _ _ _ _ _ _ _
+      c.in-Ok.ensures.user c.in-Ok.ensures.name c.in-Ok.ensures.secret (c.serve_box.ensures.session t honest holds store);
+  prompt = λ store. asked-words t _ _ _ _ _ _ _ _ _ _
+      c.in-Ok.ensures.user c.in-Ok.ensures.name c.in-Ok.ensures.secret (c.serve_box.ensures.prompt t honest holds store);
+  unchanged = c.serve_box.ensures.unchanged t honest holds;
+  version = c.serve_box.ensures.version t honest holds;
+  refused = λ v has. c.serve_box.ensures.refusals.refused t honest holds v has;
+  fine = λ v has. c.serve_box.ensures.refusals.fine t honest holds v has;
+  known = λ store. c.serve_box.ensures.refusals.known t honest holds store;
 }
 
 pub returns-in-Err-Refused-clause-complete : goal.returns-in-Err-Refused-clause-complete
@@ -47,39 +108,8 @@ pub returns-in-Err-Memory-clause-named : goal.returns-in-Err-Memory-clause-named
 returns-in-Err-Memory-clause-named g c = λ path user name secret worded.
     let asked = worded-pop c.args.words.now path user name secret worded in (asked.place, (asked.user_is, (asked.name_is, asked.secret_is)))
 
-pub returns-in-Err-Memory-clause-session : goal.returns-in-Err-Memory-clause-session
-returns-in-Err-Memory-clause-session g c = λ t honest holds store. unserved 7 _ _ _ _ _ _ _ _ (inr (inr (inr refl))) (λ e. cc) refl refl
-
-pub returns-in-Err-Memory-clause-unchanged : goal.returns-in-Err-Memory-clause-unchanged
-returns-in-Err-Memory-clause-unchanged g c = λ t honest holds. record { exact = holds.exact; told = λ _. holds.told }
-
-pub returns-in-Err-Memory-clause-refusals : goal.returns-in-Err-Memory-clause-refusals
-returns-in-Err-Memory-clause-refusals g c = record {
-  refused = λ t honest holds v version fault is.
-      Refused-none 7 fault _ _ _ _ _ _ t (inr (inr (inr (inr refl)))) (λ e. cc) refl refl (λ _. holds.told) holds.exact;
-  fine = search rules;
-  known = search rules;
-}
-
-pub returns-clause-session : goal.returns-clause-session
-returns-clause-session g c = λ t honest holds store.
-    served-words c.serve_box.result t _ _ _ _ _ _ _ _ _ _ _
-    c.in-Ok.ensures.user c.in-Ok.ensures.name c.in-Ok.ensures.secret (c.serve_box.ensures.session t honest holds store)
-
-pub returns-clause-quit : goal.returns-clause-quit
-returns-clause-quit g c =
-    took-quit-words c.serve_box.result _ _ _ _ _ _ c.in-Ok.ensures.user c.in-Ok.ensures.secret c.serve_box.ensures.quit
-
 pub returns-clause-complete : goal.returns-clause-complete
 returns-clause-complete g c = λ path user name secret worded reads puts keeps. c.serve_box.ensures.complete reads puts keeps
-
-pub returns-in-Err-Refused-clause-words : goal.returns-in-Err-Refused-clause-words
-returns-in-Err-Refused-clause-words g c = λ _. not-stopped (takes pop_app c.args.words.now)
-    c.in-Err-Refused.ensures.taken (not-both c.in-Err-Refused.field-0 c.in-Err-Refused.field-0-is)
-
-pub returns-in-Err-Refused-clause-worded : goal.returns-in-Err-Refused-clause-worded
-returns-in-Err-Refused-clause-worded g c = λ path user name secret worded _.
-    not-both c.in-Err-Refused.field-0 c.in-Err-Refused.field-0-is (c.in-Err-Refused.ensures.fine path user name secret worded)
 
 pub returns-in-Err-Refused-clause-named : goal.returns-in-Err-Refused-clause-named
 returns-in-Err-Refused-clause-named g c = λ path user name secret worded.
@@ -88,20 +118,3 @@ returns-in-Err-Refused-clause-named g c = λ path user name secret worded.
 pub returns-clause-named : goal.returns-clause-named
 returns-clause-named g c = λ path user name secret worded.
     let asked = worded-pop c.args.words.now path user name secret worded in (asked.place, (asked.user_is, (asked.name_is, asked.secret_is)))
-
-pub returns-in-Err-Refused-clause-version : goal.returns-in-Err-Refused-clause-version
-returns-in-Err-Refused-clause-version g c = λ t honest holds. exit-words _
-
-pub returns-in-Err-Memory-clause-version : goal.returns-in-Err-Memory-clause-version
-returns-in-Err-Memory-clause-version g c = λ t honest holds. exit-unopened _
-
-pub returns-in-Err-Refused-clause-prompt : goal.returns-in-Err-Refused-clause-prompt
-returns-in-Err-Refused-clause-prompt g c = λ t honest holds store. unasked _ _
-
-pub returns-in-Err-Memory-clause-prompt : goal.returns-in-Err-Memory-clause-prompt
-returns-in-Err-Memory-clause-prompt g c = λ t honest holds store. unasked _ _
-
-pub returns-clause-prompt : goal.returns-clause-prompt
-returns-clause-prompt g c = λ t honest holds store.
-    asked-words t _ _ _ _ _ _ _ _ _ _
-    c.in-Ok.ensures.user c.in-Ok.ensures.name c.in-Ok.ensures.secret (c.serve_box.ensures.prompt t honest holds store)

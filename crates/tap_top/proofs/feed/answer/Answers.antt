@@ -10,20 +10,20 @@ returns-in-Err-KeeperFailed-clause-cut g c = record {
   put = search rules;
   uncommitted = λ _ t honest at.
       let sound = sound-for c.args.command t c.args.engine.now.session at.sound in
-      let crash = c.in-Err-KeeperFailed.ensures.crash t at.represents sound honest at.holds in
-      Uncommitted-one t _ c.args.command _ _ at.sound crash.0 (c.in-Err-KeeperFailed.ensures.adds t at.represents sound) crash.1;
+      let crash = c.in-Err-KeeperFailed.ensures.stores.crash t at.represents sound honest at.holds in
+      Uncommitted-one t _ c.args.command _ _ at.sound crash.0 (c.in-Err-KeeperFailed.ensures.keeper.adds t at.represents sound) crash.1;
 }
 
 pub returns-in-Ok-put_reply-clause-ok : goal.returns-in-Ok-put_reply-clause-ok
 returns-in-Ok-put_reply-clause-ok g c = λ t honest at.
-    let step = c.in-Ok.ensures.step t at.represents (sound-for c.args.command t c.args.engine.now.session at.sound) in
+    let step = c.in-Ok.ensures.answer.step t at.represents (sound-for c.args.command t c.args.engine.now.session at.sound) in
     let there : EngineMatchesKeeper c.perform.new.self (g.P.Keeper.tells c.perform.new.keeper) (g.P.Keeper.may_leave c.perform.new.keeper)
     (next_tables c.args.command c.in-Ok.reply c.args.engine.now.session t) =
     record {
-      represents = c.in-Ok.ensures.represents t at.represents (sound-for c.args.command t c.args.engine.now.session at.sound);
+      represents = c.in-Ok.ensures.answer.represents t at.represents (sound-for c.args.command t c.args.engine.now.session at.sound);
       sound = step-sound t c.args.engine.now.session c.args.command c.in-Ok.reply
           (next_tables c.args.command c.in-Ok.reply c.args.engine.now.session t) c.perform.new.self.session step at.sound;
-      holds = c.in-Ok.ensures.kept t at.represents (sound-for c.args.command t c.args.engine.now.session at.sound) honest at.holds;
+      holds = c.in-Ok.ensures.stores.kept t at.represents (sound-for c.args.command t c.args.engine.now.session at.sound) honest at.holds;
     } in
     Answered-one t _ c.args.command c.in-Ok.reply _ _
     (EngineMatchesKeeper c.perform.new.self (g.P.Keeper.tells c.perform.new.keeper) (g.P.Keeper.may_leave c.perform.new.keeper)) _ _
@@ -33,9 +33,10 @@ pub returns-clause-cut : goal.returns-clause-cut
 returns-clause-cut g c = record {
   put = λ _ t honest at.
       CutOff-one t _ c.args.command c.in-Ok.reply _ _ _ (next_tables c.args.command c.in-Ok.reply c.args.engine.now.session t) _
-      c.in-Err.field-0 at.sound (c.in-Ok.ensures.step t at.represents (sound-for c.args.command t c.args.engine.now.session at.sound))
+      c.in-Err.field-0 at.sound
+      (c.in-Ok.ensures.answer.step t at.represents (sound-for c.args.command t c.args.engine.now.session at.sound))
       c.in-Err.ensures.err
-      (c.in-Ok.ensures.kept t at.represents (sound-for c.args.command t c.args.engine.now.session at.sound) honest at.holds);
+      (c.in-Ok.ensures.stores.kept t at.represents (sound-for c.args.command t c.args.engine.now.session at.sound) honest at.holds);
   uncommitted = search rules;
 }
 
@@ -44,7 +45,7 @@ returns-in-Err-KeeperFailed-clause-leaves g c = record {
   cause = search rules;
   stopped = search rules;
   keeper = search rules;
-  version = λ t honest at. c.in-Err-KeeperFailed.ensures.version t
+  version = λ t honest at. c.in-Err-KeeperFailed.ensures.stores.version t
       at.represents (sound-for c.args.command t c.args.engine.now.session at.sound) honest at.holds.told;
 }
 
@@ -54,7 +55,7 @@ returns-in-Ok-put_reply-clause-leaves g c = record {
   stopped = search rules;
   keeper = search rules;
   version = λ t honest at.
-      c.in-Ok.ensures.version t at.represents (sound-for c.args.command t c.args.engine.now.session at.sound) honest at.holds.told;
+      c.in-Ok.ensures.stores.version t at.represents (sound-for c.args.command t c.args.engine.now.session at.sound) honest at.holds.told;
 }
 
 pub returns-clause-leaves : goal.returns-clause-leaves
@@ -63,5 +64,5 @@ returns-clause-leaves g c = record {
   stopped = search rules;
   keeper = search rules;
   version = λ t honest at.
-      c.in-Ok.ensures.version t at.represents (sound-for c.args.command t c.args.engine.now.session at.sound) honest at.holds.told;
+      c.in-Ok.ensures.stores.version t at.represents (sound-for c.args.command t c.args.engine.now.session at.sound) honest at.holds.told;
 }

@@ -9,19 +9,19 @@ use Rattle.tap_top.proofs.sampled.perform_one.Goals as goal
 pub returns-in-Err-KeeperFailed-clause-keeper : goal.returns-in-Err-KeeperFailed-clause-keeper
 returns-in-Err-KeeperFailed-clause-keeper g c = λ _ t honest at.
     let sound = sound-for c.args.command t c.args.engine.now.session at.sound in
-    let crash = c.in-Err-KeeperFailed.ensures.crash t at.represents sound honest at.holds in
-    NextUncommitted-one t _ c.args.command _ at.sound crash.0 (c.in-Err-KeeperFailed.ensures.adds t at.represents sound) crash.1
+    let crash = c.in-Err-KeeperFailed.ensures.stores.crash t at.represents sound honest at.holds in
+    NextUncommitted-one t _ c.args.command _ at.sound crash.0 (c.in-Err-KeeperFailed.ensures.keeper.adds t at.represents sound) crash.1
 
 pub returns-in-Some-clause-ok : goal.returns-in-Some-clause-ok
 returns-in-Some-clause-ok g c = λ t honest at.
-    let step = c.in-Ok.ensures.step t at.represents (sound-for c.args.command t c.args.engine.now.session at.sound) in
+    let step = c.in-Ok.ensures.answer.step t at.represents (sound-for c.args.command t c.args.engine.now.session at.sound) in
     let there : EngineMatchesKeeper c.perform.new.self (g.P.Keeper.tells c.perform.new.keeper) (g.P.Keeper.may_leave c.perform.new.keeper)
     (next_tables c.args.command c.in-Ok.reply c.args.engine.now.session t) =
     record {
-      represents = c.in-Ok.ensures.represents t at.represents (sound-for c.args.command t c.args.engine.now.session at.sound);
+      represents = c.in-Ok.ensures.answer.represents t at.represents (sound-for c.args.command t c.args.engine.now.session at.sound);
       sound = step-sound t c.args.engine.now.session c.args.command c.in-Ok.reply
           (next_tables c.args.command c.in-Ok.reply c.args.engine.now.session t) c.perform.new.self.session step at.sound;
-      holds = c.in-Ok.ensures.kept t at.represents (sound-for c.args.command t c.args.engine.now.session at.sound) honest at.holds;
+      holds = c.in-Ok.ensures.stores.kept t at.represents (sound-for c.args.command t c.args.engine.now.session at.sound) honest at.holds;
     } in
     Performed-one t _
     c.args.command c.in-Ok.reply (λ replies x. EngineMatchesKeeper c.perform.new.self (g.P.Keeper.tells c.perform.new.keeper)
@@ -33,15 +33,15 @@ returns-in-Some-clause-ok g c = λ t honest at.
 pub returns-clause-memory : goal.returns-clause-memory
 returns-clause-memory g c = λ _ t honest at.
     FirstPerformed-one t _ c.args.command c.in-Ok.reply _ (next_tables c.args.command c.in-Ok.reply c.args.engine.now.session t) _
-    at.sound (c.in-Ok.ensures.step t at.represents (sound-for c.args.command t c.args.engine.now.session at.sound))
-    (c.in-Ok.ensures.kept t at.represents (sound-for c.args.command t c.args.engine.now.session at.sound) honest at.holds)
+    at.sound (c.in-Ok.ensures.answer.step t at.represents (sound-for c.args.command t c.args.engine.now.session at.sound))
+    (c.in-Ok.ensures.stores.kept t at.represents (sound-for c.args.command t c.args.engine.now.session at.sound) honest at.holds)
 
 pub returns-in-Err-KeeperFailed-clause-leaves : goal.returns-in-Err-KeeperFailed-clause-leaves
 returns-in-Err-KeeperFailed-clause-leaves g c = record {
   cause = search rules;
   stopped = search rules;
   keeper = search rules;
-  version = λ t honest at. c.in-Err-KeeperFailed.ensures.version t
+  version = λ t honest at. c.in-Err-KeeperFailed.ensures.stores.version t
       at.represents (sound-for c.args.command t c.args.engine.now.session at.sound) honest at.holds.told;
 }
 
@@ -51,7 +51,7 @@ returns-in-Some-clause-leaves g c = record {
   stopped = search rules;
   keeper = search rules;
   version = λ t honest at.
-      c.in-Ok.ensures.version t at.represents (sound-for c.args.command t c.args.engine.now.session at.sound) honest at.holds.told;
+      c.in-Ok.ensures.stores.version t at.represents (sound-for c.args.command t c.args.engine.now.session at.sound) honest at.holds.told;
 }
 
 pub returns-clause-leaves : goal.returns-clause-leaves
@@ -60,5 +60,5 @@ returns-clause-leaves g c = record {
   stopped = search rules;
   keeper = search rules;
   version = λ t honest at.
-      c.in-Ok.ensures.version t at.represents (sound-for c.args.command t c.args.engine.now.session at.sound) honest at.holds.told;
+      c.in-Ok.ensures.stores.version t at.represents (sound-for c.args.command t c.args.engine.now.session at.sound) honest at.holds.told;
 }
