@@ -5,7 +5,8 @@ use Rattle.tap_rows.specs.declared.tables.Tables.{Tables}
 use Rattle.tap_top.specs.Premises.{IfKnown}
 use Rattle.pop_session.specs.declared.letter.Letter.{Letter}
 use Rattle.pop_session.specs.Letters.{crlf_line}
-use Rattle.pop_session.specs.declared.hold.TheConstants.{SESSION_LIMIT, PIECE}
+use Rattle.pop_session.specs.declared.hold.TheConstants.{SESSION_LIMIT}
+use Rattle.tap_edges.specs.declared.pieces.TheConstants.{PIECE}
 use Rattle.pop_session.specs.Sessions.{has_quit}
 use Rattle.pop_session.specs.Ends.{IsSession, LettersEnd, TookBytes}
 

@@ -11,7 +11,8 @@ use Rattle.tap_edges.specs.Puts.{TookSome}
 use Rattle.tap_edges.proofs.Puts.{Appends-more, Appends-none}
 use Rattle.peer_edges.specs.Asks.{AskedOnlyWhen}
 use Rattle.peer_edges.proofs.Asks.{asked_more, asked_as}
-use Rattle.pop_session.specs.declared.hold.TheConstants.{SESSION_LIMIT, PIECE}
+use Rattle.pop_session.specs.declared.hold.TheConstants.{SESSION_LIMIT}
+use Rattle.tap_edges.specs.declared.pieces.TheConstants.{PIECE}
 use Rattle.pop_session.specs.Replies.{greeting}
 use Rattle.pop_session.specs.Requests.{requests}
 use Rattle.pop_session.specs.Sessions.{PopSessionState, replies_from, quits_from, replies_to, phase_after, is_ended}

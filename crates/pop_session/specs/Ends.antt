@@ -4,7 +4,8 @@ use Rattle.std.specs.Io.KnownBytes.{Consumes, Appends, IsAtEnd}
 use Rattle.pop_session.specs.declared.letter.Letter.{Letter}
 use Rattle.pop_session.specs.Replies.{greeting}
 use Rattle.pop_session.specs.Sessions.{pop_replies, has_quit}
-use Rattle.pop_session.specs.declared.hold.TheConstants.{SESSION_LIMIT, PIECE}
+use Rattle.pop_session.specs.declared.hold.TheConstants.{SESSION_LIMIT}
+use Rattle.tap_edges.specs.declared.pieces.TheConstants.{PIECE}
 use Rattle.tap_base.specs.Counts.{Rose}
 use Rattle.tap_base.specs.Prefixes.{IsPrefix}
 

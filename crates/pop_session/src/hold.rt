@@ -1,5 +1,5 @@
 //! A session over a source and a sink: the client's bytes in pieces, and the replies to them.
-ghost use Rattle.std.specs.Prelude.{◌≡◌, [], min};
+ghost use Rattle.std.specs.Prelude.{◌≡◌, []};
 ghost use Rattle.pop_session.specs.declared.outcome.Phase.{Phase};
 ghost use Rattle.pop_session.specs.Sessions.{AreShort, CanTakeBytes, replies_from, quits_from};
 ghost use Rattle.pop_session.specs.Ends.{SessionEnds, SessionCauses, IsSession, LettersEnd};
@@ -9,20 +9,10 @@ ghost use Rattle.peer_edges.specs.Asks.{AskedOnlyWhen};
 use crate::laws::replies_grow;
 use crate::{Letter, PopSession};
 use peer_edges::Peer;
-use tap_edges::Sink;
+use tap_edges::{PIECE, Sink, least};
 
 /// The most bytes that a session looks at: 256 MiB.
 pub const SESSION_LIMIT: usize = 268435456;
-
-/// The bytes that one read asks for at most.
-pub const PIECE: usize = 65536;
-
-// Returns the smaller number.
-fn least(a: usize, b: usize) -> usize
-    ensures { result ≡ min a b }
-{
-    if a < b { a } else { b }
-}
 
 // Takes the pieces of the source and puts the replies to each before the next one is read; returns
 // the status.

@@ -13,6 +13,6 @@ mod reply;
 mod request;
 mod session;
 
-pub use hold::{PIECE, SESSION_LIMIT, hold_session};
+pub use hold::{SESSION_LIMIT, hold_session};
 pub use letter::Letter;
 pub use session::PopSession;

@@ -20,7 +20,7 @@ use crate::request::outcome_of;
 use arrayvec::ArrayVec;
 use memchr::memchr;
 use std::marker::Model;
-use tap_edges::{PutFailed, Sink, put_next};
+use tap_edges::{PutFailed, Sink, put_next, rest_from};
 
 /// A session of RFC 1939 over a list of letters. It takes the client's bytes in pieces of any size,
 /// and puts the reply to each request before it looks at the next. It takes no memory.
@@ -89,14 +89,6 @@ fn is_ended(phase: Phase) -> bool
         Phase::Ended => true,
         _ => false,
     }
-}
-
-// Returns the bytes after the first `n`.
-fn rest_from(bytes: &[u8], n: usize) -> &[u8]
-    requires { n ≤ length bytes.now }
-    ensures { result.now ≡ drop n bytes.now }
-{
-    &bytes[n..]
 }
 
 // How many bytes of a piece a request took, and how many bytes of the replies to the piece are put

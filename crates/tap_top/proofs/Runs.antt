@@ -12,7 +12,8 @@ use Rattle.script_lang.specs.Script.{script, complete, Reading, new_reading, scr
 use Rattle.tap_model.specs.declared.session.Session.{Session}
 use Rattle.tap_model.specs.Sessions.{no_session}
 use Rattle.tap_model.specs.Sound.{IsSound}
-use Rattle.tap_top.specs.declared.top.TheConstants.{SCRIPT_LIMIT, PIECE}
+use Rattle.tap_top.specs.declared.top.TheConstants.{SCRIPT_LIMIT}
+use Rattle.tap_edges.specs.declared.pieces.TheConstants.{PIECE}
 use Rattle.tap_top.specs.Answers.{Answered, CutOff, Uncommitted, Closed, ClosedCut}
 use Rattle.tap_top.specs.Pieces.{PieceAnswered, PieceCut, PieceOutOfMemory}
 use Rattle.tap_top.specs.Statuses.{Whole, ReadCut, PassedScriptLimit, TooLong, OutOfMemory, CutAt, PutCut, KeeperCut}

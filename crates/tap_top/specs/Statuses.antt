@@ -6,7 +6,8 @@ use Rattle.script_lang.specs.declared.command.Command.{Command}
 use Rattle.script_lang.specs.Script.{script, complete}
 use Rattle.tap_model.specs.declared.session.Session.{Session}
 use Rattle.tap_model.specs.Sessions.{no_session}
-use Rattle.tap_top.specs.declared.top.TheConstants.{SCRIPT_LIMIT, PIECE}
+use Rattle.tap_top.specs.declared.top.TheConstants.{SCRIPT_LIMIT}
+use Rattle.tap_edges.specs.declared.pieces.TheConstants.{PIECE}
 use Rattle.tap_top.specs.Answers.{Answered, CutOff, Uncommitted}
 use Rattle.tap_base.specs.Prefixes.{IsPrefix}
 

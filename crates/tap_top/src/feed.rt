@@ -1,7 +1,7 @@
 //! Commands one by one: each is performed when its last line is read, and its reply is put before
 //! the next one.
 ghost use Rattle.std.specs.Prelude.{◌≡◌, ◌≤◌, ◌<◌, [], ◌∷◌, Some, None, true, length, take};
-ghost use Rattle.std.specs.Prelude.{drop, OnOk, IfOk, IsErrOf};
+ghost use Rattle.std.specs.Prelude.{OnOk, IfOk, IsErrOf};
 ghost use Rattle.script_lang.specs.Replies.{is_accepted};
 ghost use Rattle.script_lang.specs.Script.{script_from, complete_from};
 ghost use Rattle.tap_top.specs.Points.{CanPerform};
@@ -16,7 +16,7 @@ use script_lang::{Command, Got, Reply, ScriptReader, put_reply};
 use std::alloc::Global;
 use std::sync::ledger::Ledger;
 use tap_base::Steps;
-use tap_edges::Sink;
+use tap_edges::{Sink, rest_from};
 use tap_engine::{Engine, EngineFault};
 
 /// Why no more commands are performed.
@@ -71,14 +71,6 @@ pub fn answer<K: Sink, P: Keeper, L: Ledger>(
         Ok(()) => Ok(is_ok(&reply)),
         Err(_) => Err(Stop::Put),
     }
-}
-
-// Returns the bytes after the first `n`.
-fn rest_from(bytes: &[u8], n: usize) -> &[u8]
-    requires { n ≤ length bytes.now }
-    ensures { result.now ≡ drop n bytes.now }
-{
-    &bytes[n..]
 }
 
 // How many bytes a line took, and whether the reply to the command that it completed begins `ok`.

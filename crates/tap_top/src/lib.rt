@@ -16,4 +16,4 @@ pub use opening::{OpenFault, open_store};
 pub use refusing::refuse;
 pub use status::Status;
 pub use store_fault::StoreFault;
-pub use top::{PIECE, SCRIPT_LIMIT, tapestry};
+pub use top::{SCRIPT_LIMIT, tapestry};

@@ -1,6 +1,6 @@
 //! The top call: reads the words, opens the store, and performs a script or a sample over it.
 ghost use Rattle.std.specs.Prelude.{◌≡◌, ◌≢◌, ◌≤◌, ◌&&◌, ◌==◌};
-ghost use Rattle.std.specs.Prelude.{ℕ, List, [], Option, Some, None, true, min};
+ghost use Rattle.std.specs.Prelude.{ℕ, List, [], Option, Some, None, true};
 ghost use Rattle.std.specs.List.{All};
 ghost use Rattle.std.specs.Str.{IsUtf8};
 ghost use Rattle.std.specs.Io.KnownBytes.{IsAtEnd};
@@ -38,22 +38,11 @@ use script_lang::ScriptReader;
 use std::alloc::Global;
 use std::sync::ledger::Ledger;
 use tap_base::{HashKey, Steps, Text, Texts};
-use tap_edges::Sink;
+use tap_edges::{PIECE, Sink, least};
 use tap_engine::Engine;
 
 /// The most bytes that a script may have: 256 MiB.
 pub const SCRIPT_LIMIT: usize = 268435456;
-
-/// The bytes that one read asks for at most: a run that is cut off at a command took fewer bytes
-/// than these after it.
-pub const PIECE: usize = 65536;
-
-// Returns the smaller number.
-fn least(a: usize, b: usize) -> usize
-    ensures { result ≡ min a b }
-{
-    if a < b { a } else { b }
-}
 
 // Returns the status of a run that ended with the input.
 fn status(all_ok: bool) -> Status

@@ -1,5 +1,6 @@
 use Rattle.std.proofs.Common.{rules, ◌∙◌, refl, arith, ◌≤◌, ◌<◌, length}
-use Rattle.pop_session.specs.declared.hold.TheConstants.{SESSION_LIMIT, PIECE}
+use Rattle.pop_session.specs.declared.hold.TheConstants.{SESSION_LIMIT}
+use Rattle.tap_edges.specs.declared.pieces.TheConstants.{PIECE}
 use Rattle.pop_session.proofs.PieceRuns.{Answering-asked, Answering-start, Answering-more, Answering-quit, Answering-read, Answering-end}
 use Rattle.pop_session.proofs.PieceRuns.{Answering-long, Answering-cut, none-taken, many-taken, few-taken, begun-none, begun-open}
 use Rattle.pop_session.proofs.PieceRuns.{begun-grows, quit-ends, end-ends, read-ends, put-ends, long-ends}

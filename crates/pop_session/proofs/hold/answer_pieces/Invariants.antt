@@ -1,5 +1,6 @@
 use Rattle.std.proofs.Common.{◌≡◌, ◌≤◌, ◌-◌, ◌+◌}
-use Rattle.pop_session.specs.declared.hold.TheConstants.{SESSION_LIMIT, PIECE}
+use Rattle.pop_session.specs.declared.hold.TheConstants.{SESSION_LIMIT}
+use Rattle.tap_edges.specs.declared.pieces.TheConstants.{PIECE}
 use Rattle.pop_session.specs.Sessions.{CanTakeBytes, replies_from, quits_from}
 use Rattle.peer_edges.specs.Asks.{AskedOnlyWhen}
 use Rattle.pop_session.specs.Ends.{OpenEnd}

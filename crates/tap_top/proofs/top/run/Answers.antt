@@ -1,6 +1,6 @@
 use Rattle.keeper_core.specs.Keeping.{IsDurable}
 use Rattle.std.proofs.Common.{rules, ◌∙◌, arith, ap, sym, subst, refl, Err, ◌≤◌, ◌<◌, length}
-use Rattle.tap_top.specs.declared.top.TheConstants.{PIECE}
+use Rattle.tap_edges.specs.declared.pieces.TheConstants.{PIECE}
 use Rattle.tap_top.specs.Codes.{is_all_ok}
 use Rattle.tap_top.specs.Points.{EngineMatchesKeeper}
 use Rattle.tap_top.proofs.Steps.{KeeperFrame-start, KeeperFrame-then}

@@ -1,6 +1,7 @@
 use Rattle.std.proofs.Common.{◌≡◌, ◌≤◌, ◌-◌, ◌+◌, ℤ, []}
 use Rattle.script_lang.specs.Script.{complete_from}
-use Rattle.tap_top.specs.declared.top.TheConstants.{SCRIPT_LIMIT, PIECE}
+use Rattle.tap_top.specs.declared.top.TheConstants.{SCRIPT_LIMIT}
+use Rattle.tap_edges.specs.declared.pieces.TheConstants.{PIECE}
 use Rattle.tap_top.specs.Points.{CanPerform}
 use Rattle.tap_top.specs.Premises.{AgreeOn, FromEngine}
 use Rattle.tap_top.specs.Frames.{KeeperFrame}
