@@ -2,6 +2,9 @@
 //! memory.
 #![tactic(auto)]
 
+// Some forms are for the proofs: a loop's label is its name there, and a result that is given on is
+// matched, so that each case has a name.
+
 mod buffer;
 mod hold;
 mod keyword;

@@ -2,6 +2,10 @@
 //! the next command.
 #![tactic(auto)]
 
+// Some forms are for the proofs. A large value is dropped by name, since one that goes out of scope
+// by itself is dropped field by field within its function's proof. A result that is given on is
+// matched, so that each case has a name there. So has a loop, which is its label.
+
 mod feed;
 pub mod laws;
 mod opening;
