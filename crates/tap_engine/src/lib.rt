@@ -7,6 +7,7 @@ mod ask;
 mod boxes;
 mod define;
 mod digest;
+mod docs;
 mod engine;
 mod explain;
 mod fault;
