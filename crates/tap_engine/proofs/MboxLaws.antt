@@ -1,4 +1,4 @@
--- Mailbox files: why one is refused, and what the engine represents after one.
+-- Messages: why a mailbox file is refused, and what the engine represents after documents were added.
 use Rattle.std.proofs.Common.{◌≡◌, ◌∙◌, sym, refl, ap, subst, arith, ℕ, ℤ, List, [], ◌∷◌, ◌+◌, ◌*◌, ◌≤◌, suc, length, Bool, true, false}
 use Rattle.std.proofs.Common.{Option, Some, None, inr}
 use Rattle.std.specs.Prelude.{◌&&◌, ◌==◌, nat_le, sum_by}
@@ -15,14 +15,14 @@ use Rattle.mail_lines.specs.declared.block.Block.TheVariants.{Whole, Long}
 use Rattle.script_lang.specs.declared.refusal.Refusal.{Refusal}
 use Rattle.script_lang.specs.declared.refusal.Refusal.TheVariants.{NoMoment, Memory, Limit}
 use Rattle.script_lang.specs.declared.refusal.LimitName.TheVariants.{Message, Documents, Store}
-use Rattle.script_lang.specs.declared.command.Command.TheVariants.{Mbox}
-use Rattle.script_lang.specs.declared.reply.Reply.TheVariants.{Docs as DocsAdded}
+use Rattle.script_lang.specs.declared.command.Command.TheVariants.{Mail, Mbox}
+use Rattle.script_lang.specs.declared.reply.Reply.TheVariants.{OneDoc, Docs as DocsAdded}
 use Rattle.tap_model.specs.Limits.{document_limit, store_limit}
 use Rattle.tap_model.specs.declared.session.Session.{Session}
 use Rattle.tap_model.specs.Sessions.{moment_or_zero}
 use Rattle.tap_model.specs.Limits.{limit_refusal}
 use Rattle.tap_model.specs.Verdicts.{first_refusal, verdict, missing, refuse_unless, no_moment, messages_of, are_short, long_message}
-use Rattle.tap_model.specs.Verdicts.{long_block, bytes_of_all}
+use Rattle.tap_model.specs.Verdicts.{long_block, bytes_of_all, block_text}
 use Rattle.tap_model.specs.Replies.{docs_from, next_docs, some_docs, tables_after}
 use Rattle.tap_model.specs.Stories.{Refuses}
 use Rattle.tap_model.proofs.AnswerLaws.{some-none}
@@ -81,6 +81,17 @@ few-bytes (message ∷ messages) e =
     step : (a b n : ℕ) → a ≤ 1048576 → b ≤ 1048576 * n → a + b ≤ 1048576 * suc n
     step a b n h k = omega (arith, h, k)
 
+-- a message that isn't too long is short, and the bytes of one message are its length
+pub one-short : (messages : List (List ℕ)) (text : List ℕ) → messages ≡ text ∷ [] → length text ≤ 1048576 → are_short messages ≡ true
+one-short messages text is short = ap are_short is ∙ both (nat_le (length text) 1048576) (grind arith) where
+  both : (b : Bool) → b ≡ true → (b && true) ≡ true
+  both b e = ap (λ b. b && true) e
+
+pub one-bytes : (messages : List (List ℕ)) (text : List ℕ) → messages ≡ text ∷ [] → bytes_of_all messages ≡ length text
+one-bytes messages text is = ap bytes_of_all is ∙ sum_by-cons length text [] ∙ plus (length text) where
+  plus : (n : ℕ) → n + 0 ≡ n
+  plus n = omega arith
+
 -- some documents as a change
 pub docs-change : (t : Tables) (docs : List Doc) → tables_after (some_docs docs) t ≡ after t (Docs docs)
 docs-change t [] = ap (λ docs. record t { docs = docs }) (sym (append-nil t.docs))
@@ -108,6 +119,22 @@ answers-mbox t s block texts count first n moment change s' none is at is-count 
       change_is = is-change ∙ ap (λ m. some_docs (docs_from (n + 1) m texts)) at
           ∙ ap (λ texts. some_docs (docs_from (n + 1) (moment_or_zero s) texts)) is
           ∙ ap (λ n. some_docs (docs_from (n + 1) (moment_or_zero s) (messages_of block))) is-n ∙ accepted.change_is;
+      session_is = is-s ∙ accepted.session_is;
+    }
+
+-- a message is added
+pub answers-mail : (t : Tables) (s : Session) (block : Block) (texts : List (List ℕ)) (num n : ℕ) (moment : ℤ) (change : Option Change)
+    (s' : Session) → verdict (Mail block) s t ≡ None → texts ≡ block_text block ∷ [] → moment ≡ moment_or_zero s → n ≡ length t.docs
+    → num ≡ n + 1 → change ≡ some_docs (docs_from (n + 1) moment texts) → s' ≡ s
+    → Answers t s (Mail block) (OneDoc (record { 0 = num })) change s'
+answers-mail t s block texts num n moment change s' none is at is-n is-num is-change is-s =
+    let accepted = answers-accepted t s (Mail block) none in
+    record {
+      fine = none;
+      reply_is = ap (λ n. OneDoc (record { 0 = n })) (is-num ∙ ap (λ n. n + 1) is-n) ∙ accepted.reply_is;
+      change_is = is-change ∙ ap (λ m. some_docs (docs_from (n + 1) m texts)) at
+          ∙ ap (λ texts. some_docs (docs_from (n + 1) (moment_or_zero s) texts)) is
+          ∙ ap (λ n. some_docs (docs_from (n + 1) (moment_or_zero s) (block_text block ∷ []))) is-n ∙ accepted.change_is;
       session_is = is-s ∙ accepted.session_is;
     }
 
@@ -150,24 +177,6 @@ represents-more e t h moment texts represents there =
       bytes = e.bytes + bytes_of_all texts;
     }) (tables_after (some_docs (docs_from (n + 1) moment texts)) t))
     (sym (ap length (docs-are represents))) (represents-docs e t h moment texts represents there)
-
--- the engine with one document more
-pub represents-one : (e : Engine) (t : Tables) (h : HitsWithRoom) (moment : ℤ) (text : List ℕ) → Represents e t
-    → (e.session.moment ≡ None → ⊥)
-    → Represents (record e {
-      index = after e.index (Docs (docs_from (length e.index.docs + 1) moment (text ∷ [])));
-      hits = h;
-      bytes = e.bytes + length text;
-    }) (after t (Docs (docs_from (length e.index.docs + 1) moment (text ∷ []))))
-represents-one e t h moment text represents there = subst (λ n. Represents (record e {
-  index = after e.index (Docs (docs_from (length e.index.docs + 1) moment (text ∷ [])));
-  hits = h;
-  bytes = n;
-}) (after t (Docs (docs_from (length e.index.docs + 1) moment (text ∷ [])))))
-    (ap (λ n. e.bytes + n) (sum_by-cons length text []) ∙ one e.bytes (length text))
-    (represents-more e t h moment (text ∷ []) represents there) where
-      one : (a b : ℕ) → a + (b + 0) ≡ a + b
-      one a b = omega arith
 
 -- documents that there are
 pub docs-there : (num : ℕ) (moment : ℤ) (texts : List (List ℕ)) → (length texts == 0) ≡ false

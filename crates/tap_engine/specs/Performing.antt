@@ -44,7 +44,7 @@ pub record CommitsStep {K : Type 0} (g : Ghosts K) (before : Engine) (command : 
   -- after a command that is refused or out of memory, the tables that it told are durable, whatever these are
   pub untouched : IfOk result (λ reply. is_accepted reply ≡ false → g.honest new → (t : Tables) → g.tells old t
       → IsDurable (g.tells new) (g.may_leave new) t)
-  -- after a failure a crash leaves the tables before the command, or those with all its rows
+  -- after a failure the model doesn't refuse the command, and a crash leaves the tables before it, or those with all its rows
   pub crash : OverSoundFor before command (λ t. g.honest new → IsDurable (g.tells old) (g.may_leave old) t
       → OnErr result ((verdict command before.session t ≡ None)
       × ((x : Tables) → g.may_leave new x → (x ≡ t) ⊎ (x ≡ tables_after (answer_of command before.session t).change t))))

@@ -1,10 +1,13 @@
 //! The engine: one command, one step, one commit.
+// A `match` stands where a method with a closure would be shorter, since its arms need no clause.
+// The label of a loop names its invariant in the proofs.
 #![tactic(auto)]
 
 mod ask;
 mod boxes;
 mod define;
 mod digest;
+mod docs;
 mod engine;
 mod explain;
 mod fault;

@@ -1,6 +1,6 @@
 use Rattle.std.proofs.Common.{◌≡◌, ◌+◌, ◌++◌, drop}
 use Rattle.tap_model.specs.Replies.{docs_from}
-use Rattle.tap_engine.proofs.mbox.make_rows.Given as goal
+use Rattle.tap_engine.proofs.docs.make_rows.Given as goal
 
 -- the documents so far, and those of the messages that are left
 abbrev pub invariant-loop-text : goal.invariant-loop-text

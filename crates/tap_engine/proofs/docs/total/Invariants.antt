@@ -1,6 +1,6 @@
 use Rattle.std.proofs.Common.{◌≡◌, ◌+◌, drop}
 use Rattle.tap_model.specs.Verdicts.{bytes_of_all}
-use Rattle.tap_engine.proofs.mbox.total.Given as goal
+use Rattle.tap_engine.proofs.docs.total.Given as goal
 
 -- the bytes so far, and those of the messages that are left
 abbrev pub invariant-loop-text : goal.invariant-loop-text

@@ -3,7 +3,7 @@ use Rattle.std.specs.Prelude.{◌≤ℤ◌}
 use Rattle.std.proofs.lemmas.Int.{to_z-of_z}
 use Rattle.tap_rows.specs.declared.rows.Doc.{Doc}
 use Rattle.tap_rows.specs.Kept.{Each}
-use Rattle.tap_engine.proofs.mbox.push_doc.Goals as goal
+use Rattle.tap_engine.proofs.docs.push_doc.Goals as goal
 
 pub add_doc-requires-clause-after : goal.add_doc-requires-clause-after
 add_doc-requires-clause-after c =

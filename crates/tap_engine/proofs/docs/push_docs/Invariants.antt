@@ -5,7 +5,7 @@ use Rattle.tap_rows.specs.Kept.{Each}
 use Rattle.tap_rows.specs.Tables.{after}
 use Rattle.tap_model.specs.Replies.{docs_from}
 use Rattle.tap_model.specs.Verdicts.{are_short}
-use Rattle.tap_engine.proofs.mbox.push_docs.Given as goal
+use Rattle.tap_engine.proofs.docs.push_docs.Given as goal
 
 -- the documents that were added, and those of the messages that are left, which are short
 abbrev pub invariant-loop-text : goal.invariant-loop-text

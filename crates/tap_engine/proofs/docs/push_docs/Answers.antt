@@ -4,7 +4,7 @@ use Rattle.tap_rows.specs.declared.change.Change.TheVariants.{Docs}
 use Rattle.tap_rows.specs.Tables.{after}
 use Rattle.tap_model.specs.Replies.{docs_from}
 use Rattle.tap_engine.proofs.AddedRows.{push-rows, push-back, push-count, push-by, push-short}
-use Rattle.tap_engine.proofs.mbox.push_docs.Goals as goal
+use Rattle.tap_engine.proofs.docs.push_docs.Goals as goal
 
 pub push_doc-requires-clause-short : goal.push_doc-requires-clause-short
 push_doc-requires-clause-short c = (push-short c.args.texts.now c.text-item.result c.loop-text.text-index c.loop-text-test.true
