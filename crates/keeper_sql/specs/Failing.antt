@@ -20,7 +20,7 @@ use Rattle.keeper_core.specs.declared.fault.CommitFault.TheVariants.{Memory, Fai
 use Rattle.keeper_core.specs.declared.fault.AttachFault.{AttachFault}
 use Rattle.keeper_core.specs.declared.fault.AttachFault.TheVariants as attach
 use Rattle.keeper_sql.specs.Store.{IsOurs, OpensTo, IsAfterOpen}
-use Rattle.keeper_sql.specs.Schema.{create_meta, create_docs, create_notes, create_queries, create_runs, create_picks, create_filters}
+use Rattle.keeper_sql.specs.Schema.{create_texts}
 use Rattle.keeper_sql.specs.Schema.{select_docs, select_notes, select_queries, select_runs, select_picks, select_filters}
 use Rattle.keeper_sql.specs.Schema.{select_meta, replace_meta, insert_doc, insert_note, insert_query, insert_run, insert_pick}
 use Rattle.keeper_sql.specs.Schema.{insert_filter}
@@ -53,10 +53,6 @@ FailsToInsertRows (OneQuery query) old new e = FailsToWrite insert_query (given_
 FailsToInsertRows (RunDone run picks) old new e = FailsToWrite insert_run (given_run run) old new e
     ⊎ FailsToInsert insert_pick given_pick picks old new e
 FailsToInsertRows (OneFilter filter) old new e = FailsToWrite insert_filter (given_filter filter) old new e
-
--- the texts that make the tables
-abbrev pub create_texts : List (List ℕ)
-create_texts = create_meta ∷ create_docs ∷ create_notes ∷ create_queries ∷ create_runs ∷ create_picks ∷ create_filters ∷ []
 
 -- ---- the values that a query shows
 

@@ -1,5 +1,5 @@
 -- The tables of the store, and its statements.
-use Rattle.std.specs.Prelude.{true, false, Bool, [], ◌∷◌, Some, codes, List, ℕ, pos}
+use Rattle.std.specs.Prelude.{true, false, Bool, [], ◌∷◌, Some, codes, List, ℕ, pos, take, get_or}
 use Rattle.sqlite_value.specs.declared.value.Value.TheVariants.{Null, Int}
 use Rattle.sqlite_value.specs.declared.keys.Collation.TheVariants.{Binary}
 use Rattle.sqlite_schema.specs.declared.schema.Table.{Table}
@@ -77,13 +77,16 @@ filters_at tree =
 abbrev pub no_schema : Schema
 no_schema = record { tables = []; indexes = []; views = [] }
 
--- the tables of the store, each in the tree of its place
+-- the tables of the store, each in the tree of its place, in the order in which they are made
+abbrev pub store_tables : List Table
+store_tables = meta_at 0 ∷ docs_at 1 ∷ notes_at 2 ∷ queries_at 3 ∷ runs_at 4 ∷ picks_at 5 ∷ filters_at 6 ∷ []
+
 abbrev pub store_schema : Schema
-store_schema = record {
-  tables = meta_at 0 ∷ docs_at 1 ∷ notes_at 2 ∷ queries_at 3 ∷ runs_at 4 ∷ picks_at 5 ∷ filters_at 6 ∷ [];
-  indexes = [];
-  views = [];
-}
+store_schema = record { tables = store_tables; indexes = []; views = [] }
+
+-- the schema with that many of the tables
+abbrev pub schema_prefix : ℕ → Schema
+schema_prefix n = record { tables = take n store_tables; indexes = []; views = [] }
 
 -- ---- the statements
 
@@ -115,6 +118,14 @@ abbrev pub create_filters : List ℕ
 create_filters =
     codes
     "CREATE TABLE IF NOT EXISTS filters (num INTEGER PRIMARY KEY, owner BLOB NOT NULL, source BLOB NOT NULL, arrival INTEGER NOT NULL) STRICT"
+
+-- the texts that make the tables, in this order
+abbrev pub create_texts : List (List ℕ)
+create_texts = create_meta ∷ create_docs ∷ create_notes ∷ create_queries ∷ create_runs ∷ create_picks ∷ create_filters ∷ []
+
+-- the text that makes the table of this place
+abbrev pub create_text : ℕ → List ℕ
+create_text table = get_or create_texts table []
 
 abbrev pub insert_doc : List ℕ
 insert_doc = codes "INSERT INTO docs (num, arrival, body) VALUES (?1, ?2, ?3)"
@@ -157,34 +168,3 @@ select_meta = codes "SELECT id, version FROM meta ORDER BY id"
 
 abbrev pub replace_meta : List ℕ
 replace_meta = codes "INSERT OR REPLACE INTO meta (id, version) VALUES (1, 2)"
-
--- ---- the schema while its tables are made
-
-abbrev pub schema_prefix_0 : Schema
-schema_prefix_0 = record { tables = []; indexes = []; views = [] }
-
-abbrev pub schema_prefix_1 : Schema
-schema_prefix_1 = record { tables = meta_at 0 ∷ []; indexes = []; views = [] }
-
-abbrev pub schema_prefix_2 : Schema
-schema_prefix_2 = record { tables = meta_at 0 ∷ docs_at 1 ∷ []; indexes = []; views = [] }
-
-abbrev pub schema_prefix_3 : Schema
-schema_prefix_3 = record { tables = meta_at 0 ∷ docs_at 1 ∷ notes_at 2 ∷ []; indexes = []; views = [] }
-
-abbrev pub schema_prefix_4 : Schema
-schema_prefix_4 = record { tables = meta_at 0 ∷ docs_at 1 ∷ notes_at 2 ∷ queries_at 3 ∷ []; indexes = []; views = [] }
-
-abbrev pub schema_prefix_5 : Schema
-schema_prefix_5 = record { tables = meta_at 0 ∷ docs_at 1 ∷ notes_at 2 ∷ queries_at 3 ∷ runs_at 4 ∷ []; indexes = []; views = [] }
-
-abbrev pub schema_prefix_6 : Schema
-schema_prefix_6 =
-    record { tables = meta_at 0 ∷ docs_at 1 ∷ notes_at 2 ∷ queries_at 3 ∷ runs_at 4 ∷ picks_at 5 ∷ []; indexes = []; views = [] }
-
-abbrev pub schema_prefix_7 : Schema
-schema_prefix_7 = record {
-  tables = meta_at 0 ∷ docs_at 1 ∷ notes_at 2 ∷ queries_at 3 ∷ runs_at 4 ∷ picks_at 5 ∷ filters_at 6 ∷ [];
-  indexes = [];
-  views = [];
-}

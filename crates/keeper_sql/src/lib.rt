@@ -1,6 +1,9 @@
 //! The keeper of tables in an SQL database.
 #![tactic(auto)]
 
+// Errors of a transaction's calls are passed on by `match` and `if let`, and not by `?`: behind `?`
+// the proof search finds no clause on the error. So a `match` may return what it is given.
+
 mod change;
 mod create;
 mod docs;
