@@ -1,4 +1,6 @@
 use Rattle.std.proofs.Common.{rules, ◌≡◌, ◌⊎◌, ◌∙◌, refl, sym, ap, subst, inl, inr, ℕ, List, Option, Some, None}
+use Rattle.clap.specs.Words.{takes}
+use Rattle.command_words.specs.Options.{app}
 use Rattle.command_words.specs.declared.option_fault.OptionFault.{OptionFault}
 use Rattle.command_words.specs.declared.option_fault.OptionFault.TheVariants.{Refused as RefusedWords, Memory}
 use Rattle.command_words.specs.Words.{sample_in}
@@ -33,9 +35,11 @@ placed-by status code now old at named is same (inr placed) = inr (placed ∙ sa
 
 pub returns-in-Err-Refused-clause-ends : goal.returns-in-Err-Refused-clause-ends
 returns-in-Err-Refused-clause-ends g c = record {
-  untaken = search rules;
+  untaken = λ _. not-stopped (takes app c.args.words.now) c.in-Err-Refused.ensures.taken
+      (not-both c.in-Err-Refused.field-0 c.in-Err-Refused.field-0-is);
   exact = λ _. c.in-Err-Refused.ensures.refused c.in-Err-Refused.field-0-is;
-  worded = search rules;
+  worded = λ path number named _. not-both c.in-Err-Refused.field-0 c.in-Err-Refused.field-0-is
+      (c.in-Err-Refused.ensures.fine path number named);
   faulty = search rules;
   nothing = search rules;
   sample_silent = search rules;
@@ -97,7 +101,7 @@ returns-in-Some-clause-leaves g c = record {
 pub returns-clause-leaves : goal.returns-clause-leaves
 returns-clause-leaves g c = record {
   keeper_cause = rw c.code-in-None.ensures c.run_store.ensures.causes.keeper_cause;
-  keeper_calm = rw c.code-in-None.ensures c.run_store.ensures.causes.keeper_calm;
+  keeper_calm = c.run_store.ensures.causes.keeper_calm;
   stopped = rw c.code-in-None.ensures c.run_store.ensures.causes.stopped;
   placed = placed-by c.run_store.result _ _ _ _ _ c.code-in-None.ensures c.in-Ok.ensures.path c.run_store.ensures.path;
   unattached = search rules;
@@ -150,8 +154,8 @@ returns-in-Some-clause-over g c = λ t honest holds. record {
       c.sample_store.ensures.stopped.0 (λ is. runs (c.code-in-Some.ensures ∙ ap code_of is))) tells);
   version = λ store. rw c.code-in-Some.ensures (c.sample_store.ensures.version t honest holds store);
   refused = λ v has. rw c.code-in-Some.ensures ((c.sample_store.ensures.refusals _).refused t honest holds v has);
-  fine = λ v has. rw c.code-in-Some.ensures ((c.sample_store.ensures.refusals _).fine t honest holds v has);
-  known = λ store. rw c.code-in-Some.ensures ((c.sample_store.ensures.refusals _).known t honest holds store);
+  fine = λ v has. rw c.code-in-Some.ensures ((c.sample_store.ensures.refusals None).fine t honest holds v has);
+  known = λ store. rw c.code-in-Some.ensures ((c.sample_store.ensures.refusals None).known t honest holds store);
 }
 
 pub returns-clause-over : goal.returns-clause-over
