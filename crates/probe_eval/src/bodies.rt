@@ -190,9 +190,10 @@ fn why_no_later<'a, L: Ledger>(
             let more = env.bind(var, row);
             match why_fixed_false(search, inner, var, &more, steps) {
                 None => {
-                    if own_holds(search, inner, var, &more, steps)
-                        || any_own(search, inner, var, rows, env, steps)
-                    {
+                    if own_holds(search, inner, var, &more, steps) {
+                        return None;
+                    }
+                    if any_own(search, inner, var, rows, env, steps) {
                         None
                     } else {
                         Some(inner)

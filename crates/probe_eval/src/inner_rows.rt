@@ -150,8 +150,7 @@ fn docs_left<'a>(
 
 /// Returns the rows of the EXISTS at the number `body`, whose inner condition is at `inner`, by its
 /// access. Of a long posting list those are left out that a conjunct between numbers or times rules
-/// out. Inside its caller it would make that one copy each walk and environment once more.
-#[inline(never)]
+/// out.
 pub(crate) fn rows_left<'a>(
     search: &Search<'a>,
     body: NodeId,

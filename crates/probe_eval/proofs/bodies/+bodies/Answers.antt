@@ -25,14 +25,14 @@ why_false-returns-else-true_atom-clause-why g t c =
     search rules in
     why_itself c.args.search.now c.args.body.0 c.args.env.now c.requires.node f
 
-pub why_false-returns-else-body_holds-clause-why : goal.why_false-returns-else-body_holds-clause-why
-why_false-returns-else-body_holds-clause-why g t c =
+pub why_false-returns-else-body_holds-2-clause-why : goal.why_false-returns-else-body_holds-2-clause-why
+why_false-returns-else-body_holds-2-clause-why g t c =
     let f : truth c.args.search.now.index.now (pos 0) (condition_at c.args.search.now c.args.body.0) c.args.env.now ≡ false =
     search rules in
     why_itself c.args.search.now c.args.body.0 c.args.env.now c.requires.node f
 
-pub why_false-returns-then-body_holds-clause-why : goal.why_false-returns-then-body_holds-clause-why
-why_false-returns-then-body_holds-clause-why g t c =
+pub why_false-returns-then-body_holds-3-clause-why : goal.why_false-returns-then-body_holds-3-clause-why
+why_false-returns-then-body_holds-3-clause-why g t c =
     let f : truth c.args.search.now.index.now (pos 0) (condition_at c.args.search.now c.args.body.0) c.args.env.now ≡ false =
     search rules in
     why_itself c.args.search.now c.args.body.0 c.args.env.now c.requires.node f
@@ -170,29 +170,29 @@ pub why_no_later-returns-else-any_own-clause-why : goal.why_no_later-returns-els
 why_no_later-returns-else-any_own-clause-why g t c =
     λ table f. why_inner c.args.search.now c.args.var table c.args.inner.0 c.args.env.now c.requires.node f
 
-pub why_no_later-returns-in-Some-2-clause-truth : goal.why_no_later-returns-in-Some-2-clause-truth
-why_no_later-returns-in-Some-2-clause-truth g t c =
+pub why_no_later-returns-in-Some-why_fixed_false-clause-truth : goal.why_no_later-returns-in-Some-why_fixed_false-clause-truth
+why_no_later-returns-in-Some-why_fixed_false-clause-truth g t c =
     let x = condition_at c.args.search.now c.args.inner.0 in
     let f : truth c.args.search.now.index.now (pos 0) (fixed_part c.args.var x) (bind c.args.var (row_of c.in-Some.row) c.args.env.now) ≡ false =
     search rules in
     let a = fixed_false c.args.search.now.index.now x c.args.var c.args.env.now c.args.rows (row_of c.in-Some.row) f in
     search (rules, a)
 
-pub why_no_later-returns-in-Some-2-clause-steps : goal.why_no_later-returns-in-Some-2-clause-steps
-why_no_later-returns-in-Some-2-clause-steps g t c =
+pub why_no_later-returns-in-Some-why_fixed_false-clause-steps : goal.why_no_later-returns-in-Some-why_fixed_false-clause-steps
+why_no_later-returns-in-Some-why_fixed_false-clause-steps g t c =
     let e : c.args.rows ≡ row_of c.in-Some.row ∷ c.next.new.self = search rules in
     let s : c.next.new.steps ≡ c.args.steps.now + 1 = search rules in
     fixed_steps c.args.search.now.index.now (condition_at c.args.search.now c.args.inner.0) c.args.var c.args.env.now c.args.steps.now
     c.next.new.steps c.why_fixed_false.new.steps c.args.rows c.next.new.self (row_of c.in-Some.row)
     e s (search rules)
 
-pub why_no_later-returns-in-Some-2-clause-why : goal.why_no_later-returns-in-Some-2-clause-why
-why_no_later-returns-in-Some-2-clause-why g t c =
+pub why_no_later-returns-in-Some-why_fixed_false-clause-why : goal.why_no_later-returns-in-Some-why_fixed_false-clause-why
+why_no_later-returns-in-Some-why_fixed_false-clause-why g t c =
     let by = c.why_fixed_false.ensures.why in
     let h : IsWhyFalse c.args.search.now (fixed_part c.args.var (condition_at c.args.search.now c.args.inner.0))
-    (bind c.args.var (row_of c.in-Some.row) c.args.env.now) c.in-Some-2.why.0 = search (rules, by) in
+    (bind c.args.var (row_of c.in-Some.row) c.args.env.now) c.in-Some-why_fixed_false.why.0 = search (rules, by) in
     λ table f. why_fixed c.args.search.now c.args.var table (condition_at c.args.search.now c.args.inner.0) c.args.env.now
-    (row_of c.in-Some.row) c.in-Some-2.why.0 h
+    (row_of c.in-Some.row) c.in-Some-why_fixed_false.why.0 h
 
 pub why_fixed_false-returns-in-None-clause-why : goal.why_fixed_false-returns-in-None-clause-why
 why_fixed_false-returns-in-None-clause-why g t c =
