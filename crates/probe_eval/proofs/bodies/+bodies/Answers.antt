@@ -48,7 +48,8 @@ why_false-returns-in-Some-clause-why g t c =
     let e : condition_at c.args.search.now c.args.body.0
     ≡ All (condition_at c.args.search.now c.in-All.l.0) (condition_at c.args.search.now c.in-All.r.0) = search rules in
     let by = c.why_false.ensures.why in
-    let h : IsWhyFalse c.args.search.now (condition_at c.args.search.now c.in-All.l.0) c.args.env.now c.in-Some.why.0 = search (rules, by) in
+    let h : IsWhyFalse c.args.search.now (condition_at c.args.search.now c.in-All.l.0) c.args.env.now c.in-Some.why.0 =
+    search (rules, by) in
     why_left c.args.search.now _ _ _ c.args.env.now c.in-Some.why.0 e h
 
 pub why_false-returns-in-Exists-clause-why : goal.why_false-returns-in-Exists-clause-why
@@ -113,10 +114,10 @@ pub why_no_later-returns-then-own_holds-clause-truth : goal.why_no_later-returns
 why_no_later-returns-then-own_holds-clause-truth g t c =
     let e : c.args.rows ≡ row_of c.in-Some.row ∷ c.next.new.self = search rules in
     let x = condition_at c.args.search.now c.args.inner.0 in
-    let f : truth c.args.search.now.index.now (pos 0) (fixed_part c.args.var x) (bind c.args.var (row_of c.in-Some.row) c.args.env.now) ≡ true =
-    search rules in
-    let o : truth c.args.search.now.index.now (pos 0) (own_part c.args.var x) (bind c.args.var (row_of c.in-Some.row) c.args.env.now) ≡ true =
-    search rules in
+    let f : truth c.args.search.now.index.now (pos 0) (fixed_part c.args.var x) (bind c.args.var (row_of c.in-Some.row) c.args.env.now)
+    ≡ true = search rules in
+    let o : truth c.args.search.now.index.now (pos 0) (own_part c.args.var x) (bind c.args.var (row_of c.in-Some.row) c.args.env.now)
+    ≡ true = search rules in
     let a = own_true c.args.search.now.index.now x c.args.var c.args.env.now c.args.rows c.next.new.self (row_of c.in-Some.row) e f o in
     search (rules, a)
 
@@ -132,10 +133,10 @@ pub why_no_later-returns-then-any_own-clause-truth : goal.why_no_later-returns-t
 why_no_later-returns-then-any_own-clause-truth g t c =
     let e : c.args.rows ≡ row_of c.in-Some.row ∷ c.next.new.self = search rules in
     let x = condition_at c.args.search.now c.args.inner.0 in
-    let f : truth c.args.search.now.index.now (pos 0) (fixed_part c.args.var x) (bind c.args.var (row_of c.in-Some.row) c.args.env.now) ≡ true =
-    search rules in
-    let o : truth c.args.search.now.index.now (pos 0) (own_part c.args.var x) (bind c.args.var (row_of c.in-Some.row) c.args.env.now) ≡ false =
-    search rules in
+    let f : truth c.args.search.now.index.now (pos 0) (fixed_part c.args.var x) (bind c.args.var (row_of c.in-Some.row) c.args.env.now)
+    ≡ true = search rules in
+    let o : truth c.args.search.now.index.now (pos 0) (own_part c.args.var x) (bind c.args.var (row_of c.in-Some.row) c.args.env.now)
+    ≡ false = search rules in
     let a = own_false c.args.search.now.index.now x c.args.var c.args.env.now c.args.rows c.next.new.self (row_of c.in-Some.row) e f o in
     search (rules, a)
 
@@ -144,17 +145,17 @@ why_no_later-returns-then-any_own-clause-steps g t c =
     let e : c.args.rows ≡ row_of c.in-Some.row ∷ c.next.new.self = search rules in
     let s : c.next.new.steps ≡ c.args.steps.now + 1 = search rules in
     later_steps c.args.search.now.index.now (condition_at c.args.search.now c.args.inner.0) c.args.var c.args.env.now c.args.steps.now
-    c.next.new.steps c.why_fixed_false.new.steps c.own_holds.new.steps c.any_own.new.steps c.args.rows c.next.new.self (row_of c.in-Some.row)
-    e s (search rules) (search rules) (search rules)
+    c.next.new.steps c.why_fixed_false.new.steps c.own_holds.new.steps c.any_own.new.steps c.args.rows c.next.new.self
+    (row_of c.in-Some.row) e s (search rules) (search rules) (search rules)
 
 pub why_no_later-returns-else-any_own-clause-truth : goal.why_no_later-returns-else-any_own-clause-truth
 why_no_later-returns-else-any_own-clause-truth g t c =
     let e : c.args.rows ≡ row_of c.in-Some.row ∷ c.next.new.self = search rules in
     let x = condition_at c.args.search.now c.args.inner.0 in
-    let f : truth c.args.search.now.index.now (pos 0) (fixed_part c.args.var x) (bind c.args.var (row_of c.in-Some.row) c.args.env.now) ≡ true =
-    search rules in
-    let o : truth c.args.search.now.index.now (pos 0) (own_part c.args.var x) (bind c.args.var (row_of c.in-Some.row) c.args.env.now) ≡ false =
-    search rules in
+    let f : truth c.args.search.now.index.now (pos 0) (fixed_part c.args.var x) (bind c.args.var (row_of c.in-Some.row) c.args.env.now)
+    ≡ true = search rules in
+    let o : truth c.args.search.now.index.now (pos 0) (own_part c.args.var x) (bind c.args.var (row_of c.in-Some.row) c.args.env.now)
+    ≡ false = search rules in
     let a = own_false c.args.search.now.index.now x c.args.var c.args.env.now c.args.rows c.next.new.self (row_of c.in-Some.row) e f o in
     search (rules, a)
 
@@ -163,8 +164,8 @@ why_no_later-returns-else-any_own-clause-steps g t c =
     let e : c.args.rows ≡ row_of c.in-Some.row ∷ c.next.new.self = search rules in
     let s : c.next.new.steps ≡ c.args.steps.now + 1 = search rules in
     later_steps c.args.search.now.index.now (condition_at c.args.search.now c.args.inner.0) c.args.var c.args.env.now c.args.steps.now
-    c.next.new.steps c.why_fixed_false.new.steps c.own_holds.new.steps c.any_own.new.steps c.args.rows c.next.new.self (row_of c.in-Some.row)
-    e s (search rules) (search rules) (search rules)
+    c.next.new.steps c.why_fixed_false.new.steps c.own_holds.new.steps c.any_own.new.steps c.args.rows c.next.new.self
+    (row_of c.in-Some.row) e s (search rules) (search rules) (search rules)
 
 pub why_no_later-returns-else-any_own-clause-why : goal.why_no_later-returns-else-any_own-clause-why
 why_no_later-returns-else-any_own-clause-why g t c =
@@ -173,8 +174,8 @@ why_no_later-returns-else-any_own-clause-why g t c =
 pub why_no_later-returns-in-Some-why_fixed_false-clause-truth : goal.why_no_later-returns-in-Some-why_fixed_false-clause-truth
 why_no_later-returns-in-Some-why_fixed_false-clause-truth g t c =
     let x = condition_at c.args.search.now c.args.inner.0 in
-    let f : truth c.args.search.now.index.now (pos 0) (fixed_part c.args.var x) (bind c.args.var (row_of c.in-Some.row) c.args.env.now) ≡ false =
-    search rules in
+    let f : truth c.args.search.now.index.now (pos 0) (fixed_part c.args.var x) (bind c.args.var (row_of c.in-Some.row) c.args.env.now)
+    ≡ false = search rules in
     let a = fixed_false c.args.search.now.index.now x c.args.var c.args.env.now c.args.rows (row_of c.in-Some.row) f in
     search (rules, a)
 
