@@ -3,7 +3,6 @@
 
 mod access_rows;
 mod answer;
-mod answers;
 mod bodies;
 mod drivers;
 mod inner_rows;

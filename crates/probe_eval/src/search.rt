@@ -12,8 +12,7 @@ ghost use Rattle.probe_eval.specs.Levels.{IsSure};
 ghost use Rattle.probe_eval.specs.Nested.{new_doc, holds_here, cost_here};
 ghost use Rattle.probe_eval.specs.Walks.{CanWalk, CanAnswer};
 
-use crate::answers::body_answer;
-use crate::bodies::body_holds;
+use crate::bodies::{body_answer, body_holds};
 use crate::open::may_go;
 use crate::rests::rest_exists;
 use crate::{Next, TruthOfRows};

@@ -22,20 +22,23 @@ invariant-any_own-loop-row g l = record {
 abbrev pub decreases-any_own-loop-row : goal.decreases-any_own-loop-row
 decreases-any_own-loop-row g l = length l.rows
 
-abbrev pub decreases-body_holds : goal.decreases-body_holds
-decreases-body_holds g l = 5 * l.body.0
+abbrev pub decreases-why_false : goal.decreases-why_false
+decreases-why_false g l = 6 * l.body.0
 
-abbrev pub decreases-fixed_holds : goal.decreases-fixed_holds
-decreases-fixed_holds g l = 5 * l.body.0 + 1
+abbrev pub decreases-body_holds : goal.decreases-body_holds
+decreases-body_holds g l = 6 * l.body.0 + 1
+
+abbrev pub decreases-why_fixed_false : goal.decreases-why_fixed_false
+decreases-why_fixed_false g l = 6 * l.body.0 + 1
 
 abbrev pub decreases-own_holds : goal.decreases-own_holds
-decreases-own_holds g l = 5 * l.body.0 + 1
+decreases-own_holds g l = 6 * l.body.0 + 2
 
 abbrev pub decreases-any_own : goal.decreases-any_own
-decreases-any_own g l = 5 * l.inner.0 + 2
+decreases-any_own g l = 6 * l.inner.0 + 3
 
-abbrev pub decreases-any_later : goal.decreases-any_later
-decreases-any_later g l = 5 * l.inner.0 + 3
+abbrev pub decreases-why_no_later : goal.decreases-why_no_later
+decreases-why_no_later g l = 6 * l.inner.0 + 4
 
-abbrev pub decreases-exists_holds : goal.decreases-exists_holds
-decreases-exists_holds g l = 5 * l.inner.0 + 4
+abbrev pub decreases-why_no_row : goal.decreases-why_no_row
+decreases-why_no_row g l = 6 * l.inner.0 + 5
