@@ -123,8 +123,8 @@ fn add_all(
 impl Engine {
     ghost use Rattle.tap_engine.specs.Answering.{IsUnchangedButHits};
 
-    // Adds documents that arrive at this moment, all or none, and gives their rows as one change, or
-    // None for no documents. At Err nothing has changed but the room for hits.
+    // Adds documents that arrive at this moment, all or none, and gives their rows as one change,
+    // or None for no documents. At Err nothing has changed but the room for hits.
     pub(crate) fn add_docs(
         &mut self,
         alloc: Global,
