@@ -2,8 +2,8 @@
 //! memory.
 #![tactic(auto)]
 
-// Some forms are for the proofs: a loop's label is its name there, and a result that is given on is
-// matched, so that each case has a name.
+// Some forms are for the proofs: a result that is only given on is matched, which names its cases
+// there, and a label names a loop.
 
 mod buffer;
 mod hold;

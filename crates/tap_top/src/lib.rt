@@ -3,8 +3,8 @@
 #![tactic(auto)]
 
 // Some forms are for the proofs. A large value is dropped by name, since one that goes out of scope
-// by itself is dropped field by field within its function's proof. A result that is given on is
-// matched, so that each case has a name there. So has a loop, which is its label.
+// by itself is dropped field by field within its function's proof. A result that is only given on
+// is matched, which names its cases there, and a label names a loop.
 
 mod feed;
 pub mod laws;
