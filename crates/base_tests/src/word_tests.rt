@@ -1,5 +1,6 @@
 //! Tests of words and of copied rows.
-use tap_base::{Memory, Rows, Text, Texts, lower, words_of};
+use std::hash::{BuildHasher, DefaultHasher, Hasher};
+use tap_base::{HashKey, Memory, MessageWords, Rows, SharedText, Text, Texts, lower, words_of};
 
 #[test]
 fn words_come_once_after_those_that_are_held(rt: HostRuntime) -> Result<(), Memory> {
@@ -28,5 +29,49 @@ fn a_copy_has_the_same_rows(rt: HostRuntime) -> Result<(), Memory> {
     let rows = rows.copy()?;
     assert_eq!(rt; rows.len(), 2);
     assert_eq!(rt; rows.as_slice()[1].as_slice(), b"two".as_slice());
+    Ok(())
+}
+
+#[test]
+fn a_message_has_the_words_of_its_subject_and_of_its_body(rt: HostRuntime) -> Result<(), Memory> {
+    let alloc = rt.alloc();
+    let text = SharedText::of(alloc, Text::from_slice(alloc, b"head Body, body\r\nUp2\n")?)?;
+    let subject = Text::from_slice(alloc, b"Re: up2")?;
+    let words = MessageWords::of(subject, text, 4).copy()?;
+    let mut line = Text::new(alloc);
+    for word in words.texts(alloc, HashKey::fixed())?.as_slice() {
+        line.push_slice(word.as_slice())?;
+        line.push_slice(b" ")?;
+    }
+    assert_eq!(rt; line.as_slice(), b"re up2 body ".as_slice());
+    let mut reader = words.read(alloc)?;
+    let mut read = Text::new(alloc);
+    for _ in 0..10 {
+        if reader.advance() {
+            read.push_slice(reader.word())?;
+            read.push_slice(b" ")?;
+        }
+    }
+    assert_eq!(rt; read.as_slice(), b"re up2 body body up2 ".as_slice());
+    let held = [
+        words.holds(b"body"),
+        words.holds(b"Body"),
+        words.holds(b"head"),
+        words.holds(b"bod"),
+    ];
+    assert_eq!(rt; held, [true, false, false, false]);
+    Ok(())
+}
+
+#[test]
+fn a_run_has_the_hash_of_siphash(rt: HostRuntime) -> Result<(), Memory> {
+    let bytes: &[u8] = b"\xFFThe quick brown fox";
+    for len in 0..bytes.len() {
+        let mut run = HashKey::fixed().build_hasher();
+        run.write(&bytes[..len]);
+        let mut plain = DefaultHasher::new();
+        plain.write(&bytes[..len]);
+        assert_eq!(rt; run.finish(), plain.finish());
+    }
     Ok(())
 }

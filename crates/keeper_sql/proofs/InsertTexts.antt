@@ -7,7 +7,8 @@ use Rattle.sqlite.specs.Listing.{understood}
 use Rattle.sqlite.proofs.Callers.{IsPlain, command_of}
 use Rattle.sqlite_schema.specs.declared.command.Command.TheVariants.{Insert}
 use Rattle.sqlite_schema.specs.declared.command.Source.TheVariants.{Values}
-use Rattle.keeper_sql.specs.Schema.{store_schema, insert_doc, insert_note, insert_query, insert_run, insert_pick, insert_filter}
+use Rattle.keeper_sql.specs.Schema.{store_schema, insert_doc, insert_note, insert_query, insert_run, insert_pick, insert_eight}
+use Rattle.keeper_sql.specs.Schema.{insert_filter}
 
 abbrev pub doc_terms : List Term
 doc_terms = col 0 0 ∷ lit Null ∷ col 0 1 ∷ col 0 2 ∷ []
@@ -63,6 +64,25 @@ pick_inserted = refl
 pub pick_plain : IsPlain (understood store_schema insert_pick)
 unfolding understood everything
 pick_plain = (refl, refl)
+
+abbrev pub eight_terms : List Term
+eight_terms =
+    col 0 0 ∷ lit Null ∷ col 0 1 ∷ col 0 2 ∷ col 0 3 ∷ col 0 4
+    ∷ col 0 5 ∷ lit Null ∷ col 0 6 ∷ col 0 7 ∷ col 0 8 ∷ col 0 9
+    ∷ col 0 10 ∷ lit Null ∷ col 0 11 ∷ col 0 12 ∷ col 0 13 ∷ col 0 14
+    ∷ col 0 15 ∷ lit Null ∷ col 0 16 ∷ col 0 17 ∷ col 0 18 ∷ col 0 19
+    ∷ col 0 20 ∷ lit Null ∷ col 0 21 ∷ col 0 22 ∷ col 0 23 ∷ col 0 24
+    ∷ col 0 25 ∷ lit Null ∷ col 0 26 ∷ col 0 27 ∷ col 0 28 ∷ col 0 29
+    ∷ col 0 30 ∷ lit Null ∷ col 0 31 ∷ col 0 32 ∷ col 0 33 ∷ col 0 34
+    ∷ col 0 35 ∷ lit Null ∷ col 0 36 ∷ col 0 37 ∷ col 0 38 ∷ col 0 39 ∷ []
+
+pub eight_inserted : command_of (understood store_schema insert_eight) ≡ Insert 5 (Values eight_terms 6)
+unfolding understood everything
+eight_inserted = refl
+
+pub eight_plain : IsPlain (understood store_schema insert_eight)
+unfolding understood everything
+eight_plain = (refl, refl)
 
 abbrev pub filter_terms : List Term
 filter_terms = col 0 0 ∷ lit Null ∷ col 0 1 ∷ col 0 2 ∷ col 0 3 ∷ []

@@ -23,6 +23,8 @@ pub mod InsertNote
 pub mod InsertQuery
 pub mod InsertRun
 pub mod InsertPick
+pub mod InsertEight
+pub mod EightPicks
 pub mod InsertFilter
 pub mod FailingLemmas
 pub mod TakingLemmas

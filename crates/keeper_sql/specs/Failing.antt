@@ -1,7 +1,9 @@
 -- How the calls of this crate fail: by which statement, and between which states.
-use Rattle.std.specs.Prelude.{◌≡◌, ◌≢◌, ◌⊎◌, ℕ, ℤ, pos, ◌<◌, ◌≤◌, true, List, [], ◌∷◌, length, get_or, slice_get, Some, IsTrue, OnOk, IfErr}
-use Rattle.std.specs.Prelude.{Result, Err}
+use Rattle.std.specs.Prelude.{◌≡◌, ◌≢◌, ◌⊎◌, ℕ, ℤ, pos, ◌+◌, ◌<◌, ◌≤◌, true, List, [], ◌∷◌, length, take, drop, get_or, slice_get, Some}
+use Rattle.std.specs.Prelude.{IsTrue, OnOk, IfErr, Result, Err}
+use Rattle.std.specs.List.{flat_map}
 use Rattle.sqlite_value.specs.Order.{Row, column}
+use Rattle.tap_rows.specs.declared.rows.Pick.{Pick}
 use Rattle.sqlite_trees.specs.declared.store.Store.{Ghosts}
 use Rattle.sqlite.specs.declared.error.Error.{Error}
 use Rattle.sqlite.specs.declared.error.ErrorCode.TheVariants.{OutOfMemory}
@@ -22,7 +24,7 @@ use Rattle.keeper_core.specs.declared.fault.AttachFault.TheVariants as attach
 use Rattle.keeper_sql.specs.Store.{IsOurs, OpensTo, IsAfterOpen}
 use Rattle.keeper_sql.specs.Schema.{create_texts}
 use Rattle.keeper_sql.specs.Schema.{select_docs, select_notes, select_queries, select_runs, select_picks, select_filters}
-use Rattle.keeper_sql.specs.Schema.{select_meta, replace_meta, insert_doc, insert_note, insert_query, insert_run, insert_pick}
+use Rattle.keeper_sql.specs.Schema.{select_meta, replace_meta, insert_doc, insert_note, insert_query, insert_run, insert_pick, insert_eight}
 use Rattle.keeper_sql.specs.Schema.{insert_filter}
 use Rattle.keeper_sql.specs.RowsAsValues.{version_kinds, given_doc, given_note, given_query, given_run, given_pick, given_filter}
 use Rattle.keeper_sql.specs.RowsAsValues.{doc_kinds, note_kinds, query_kinds, run_kinds, pick_kinds, filter_kinds}
@@ -45,13 +47,22 @@ FailsAmong texts old new e = (sql : List ℕ) × IsOneOf texts sql × FailsToWri
 abbrev pub FailsToInsert : {X : Type 0} → List ℕ → (X → Row) → List X → State → State → Error → Type 0
 FailsToInsert {X} sql given xs old new e = (x : X) × IsOneOf xs x × FailsToWrite sql (given x) old new e
 
+-- the insert of eight picks at once, from this place on
+abbrev pub eight_from : ℕ → List Pick → List Pick
+eight_from at picks = take 8 (drop at picks)
+
+-- the insert of one of these picks failed with this error, or that of eight in a row
+abbrev pub FailsToInsertPicks : List Pick → State → State → Error → Type 0
+FailsToInsertPicks picks old new e =
+    FailsToInsert insert_pick given_pick picks old new e
+    ⊎ ((at : ℕ) × (at + 8 ≤ length picks) × FailsToWrite insert_eight (flat_map given_pick (eight_from at picks)) old new e)
+
 -- the insert of one of the rows of a change failed with this error
 abbrev pub FailsToInsertRows : Change → State → State → Error → Type 0
 FailsToInsertRows (Docs docs) old new e = FailsToInsert insert_doc given_doc docs old new e
 FailsToInsertRows (OneNote note) old new e = FailsToWrite insert_note (given_note note) old new e
 FailsToInsertRows (OneQuery query) old new e = FailsToWrite insert_query (given_query query) old new e
-FailsToInsertRows (RunDone run picks) old new e = FailsToWrite insert_run (given_run run) old new e
-    ⊎ FailsToInsert insert_pick given_pick picks old new e
+FailsToInsertRows (RunDone run picks) old new e = FailsToWrite insert_run (given_run run) old new e ⊎ FailsToInsertPicks picks old new e
 FailsToInsertRows (OneFilter filter) old new e = FailsToWrite insert_filter (given_filter filter) old new e
 
 -- ---- the values that a query shows

@@ -142,6 +142,12 @@ insert_run = codes "INSERT INTO runs (num, query, moment) VALUES (?1, ?2, ?3)"
 abbrev pub insert_pick : List ℕ
 insert_pick = codes "INSERT INTO picks (num, query, run, doc, second) VALUES (?1, ?2, ?3, ?4, ?5)"
 
+-- the insert of eight picks at once
+abbrev pub insert_eight : List ℕ
+insert_eight =
+    codes
+    "INSERT INTO picks (num, query, run, doc, second) VALUES (?1, ?2, ?3, ?4, ?5), (?6, ?7, ?8, ?9, ?10), (?11, ?12, ?13, ?14, ?15), (?16, ?17, ?18, ?19, ?20), (?21, ?22, ?23, ?24, ?25), (?26, ?27, ?28, ?29, ?30), (?31, ?32, ?33, ?34, ?35), (?36, ?37, ?38, ?39, ?40)"
+
 abbrev pub insert_filter : List ℕ
 insert_filter = codes "INSERT INTO filters (num, owner, source, arrival) VALUES (?1, ?2, ?3, ?4)"
 

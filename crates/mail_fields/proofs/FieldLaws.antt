@@ -1,12 +1,12 @@
 -- The fields of a message, one by one.
-use Rattle.std.proofs.Common.{◌≡◌, ℕ, List}
+use Rattle.std.proofs.Common.{◌≡◌, ℕ, List, []}
 use Rattle.std.specs.Prelude.{codes, Option, ℤ}
 use Rattle.std.specs.List.{flat_map}
 use Rattle.std.specs.Option.{option_and_then}
-use Rattle.tap_rows.specs.declared.header_field.HeaderField.{HeaderField}
-use Rattle.tap_rows.specs.Headers.{values_of}
+use Rattle.tap_rows.specs.Headers.{HeaderField, values_of}
 use Rattle.tap_rows.specs.Entries.{listed, referred, identified}
 use Rattle.tap_rows.specs.Dates.{date_of}
+use Rattle.tap_base.specs.Words.{with_new}
 use Rattle.tap_rows.specs.Fields.{fields_in, value_of, entry_of, message_words}
 
 pub fields-same :
@@ -16,7 +16,8 @@ pub fields-same :
     → m ≡ entry_of identified (value_of (codes "Message-ID") header) → i ≡ entry_of identified (value_of (codes "In-Reply-To") header)
     → t ≡ flat_map listed (values_of (codes "To") header) → c ≡ flat_map listed (values_of (codes "Cc") header)
     → g ≡ flat_map listed (values_of (codes "Newsgroups") header)
-    → r ≡ flat_map referred (values_of (codes "References") header) → w ≡ message_words (value_of (codes "Subject") header) body
+    → r ≡ with_new [] (flat_map referred (values_of (codes "References") header))
+    → w ≡ message_words (value_of (codes "Subject") header) body
     → record {
       date = d;
       from = f;

@@ -1,10 +1,10 @@
 -- The lines of a header, one after another.
 use Rattle.std.proofs.Common.{◌≡◌, ◌∙◌, sym, ap, refl, arith, ℕ, List, [], ◌∷◌, ◌++◌, take, drop, Bool, true, false, if◌then◌else◌}
 use Rattle.std.specs.List.{concat, take_while}
-use Rattle.std.proofs.lemmas.List.{append_assoc}
+use Rattle.std.proofs.lemmas.List.{append_assoc, append-nil}
 use Rattle.std.proofs.lemmas.List.Sums.{take_while-cons}
-use Rattle.tap_rows.specs.Headers.{continues_field, begins_field, fields_from, after_header, is_field_name_byte, name_length, after_name}
-use Rattle.tap_rows.specs.declared.header_field.HeaderField.{HeaderField}
+use Rattle.tap_rows.specs.Headers.{HeaderField, continues_field, begins_field, fields_from, after_header, is_field_name_byte, name_length}
+use Rattle.tap_rows.specs.Headers.{after_name}
 use Rattle.tap_base.specs.Bytes.{is_blank}
 use Rattle.mail_fields.specs.Rests.{after_continued, continues_first}
 
@@ -68,3 +68,15 @@ taken-fields done done' line name unfolded ls rest after is does is-name is-valu
 pub taken-body : (line : List ℕ) (ls rest after : List (List ℕ)) → ls ≡ line ∷ rest → true ≡ begins_field line
     → after ≡ after_continued rest → after_header ls ≡ after_header after
 taken-body line ls rest after is does is-after = rw (is, sym does, is-after, body-continued rest) refl
+
+-- without a line that continues it, a field's value is that of its first line
+pub value-stays : (value : List ℕ) (ls : List (List ℕ)) → continues_first ls ≡ false
+    → value ≡ value ++ concat (take_while continues_field ls)
+value-stays value [] none = sym (append-nil value)
+value-stays value (line ∷ ls) none =
+    sym (ap (λ ys. value ++ concat ys) (take_while-cons continues_field line ls)
+    ∙ ap (λ b. value ++ concat (if b then line ∷ take_while continues_field ls else [])) none ∙ append-nil value)
+
+pub lines-stay : (ls : List (List ℕ)) → continues_first ls ≡ false → ls ≡ after_continued ls
+lines-stay [] none = refl
+lines-stay (line ∷ ls) none = sym (ap (λ b. if b then after_continued ls else line ∷ ls) none)

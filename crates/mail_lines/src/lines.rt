@@ -3,7 +3,7 @@ ghost use Rattle.std.specs.Prelude.{◌≡◌, ◌≤◌, ◌<◌, ◌+◌, ◌=
 ghost use Rattle.std.specs.Prelude.{IfSome, IfNone, OnSome, slice_index, if◌then◌else◌};
 ghost use Rattle.std.specs.List.{position_or_len, slice_range};
 ghost use Rattle.std.specs.Str.Lines.{lines, strip_carriage_return};
-ghost use Rattle.tap_base.specs.Bytes.{IsNonEmpty, IsPlaceOrEnd};
+ghost use Rattle.tap_base.specs.Bytes.{IsNonEmpty, IsPlaceOrEnd, IsEndOf};
 ghost use Rattle.mail_lines.specs.Lines.{is_end};
 
 use memchr::memchr;
@@ -36,7 +36,7 @@ pub(crate) fn end_of_line(text: &[u8]) -> usize
 }
 
 // Returns how many bytes a line has without one CR at its end.
-fn without_carriage_return(line: &[u8]) -> usize
+pub(crate) fn without_carriage_return(line: &[u8]) -> usize
     ensures value { take result line.now ≡ strip_carriage_return line.now }
     ensures within { result ≤ length line.now }
 {
@@ -85,6 +85,7 @@ pub fn first_line(text: &[u8]) -> FirstLine<'_>
     requires { IsNonEmpty text.now }
     ensures lines { lines text.now ≡ result.line.now ∷ lines result.rest.now }
     ensures shorter { length result.rest.now < length text.now }
+    ensures end { IsEndOf result.rest.now text.now }
 {
     let len = end_of_line(text);
     if len == text.len() {

@@ -9,7 +9,7 @@ ghost use Rattle.tap_base.specs.Numbers.{IsMoment};
 use little_box::LittleBox;
 use row_index::RowIndex;
 use std::alloc::Global;
-use tap_base::{DocNum, Memory, PackedTexts, SharedText, Text, Texts};
+use tap_base::{DocNum, Memory, MessageWords, SharedText, Text, Texts};
 use tap_rows::{Doc, Entry, Fields, KeptDoc};
 
 /// Returns a document without a text.
@@ -32,7 +32,7 @@ pub fn blank_doc(alloc: Global, num: u32, arrival: i64) -> Result<KeptDoc, Memor
         cc: Texts::new(alloc),
         newsgroups: Texts::new(alloc),
         references: Texts::new(alloc),
-        words: PackedTexts::new(alloc),
+        words: MessageWords::of(Text::new(alloc), doc.text.copy()?, 0),
         size: 0,
     };
     Ok(KeptDoc::new(doc, fields))

@@ -80,11 +80,9 @@ fn counts<L: Ledger>(index: &RowIndex, steps: &mut Steps<L>) -> [usize; 5] {
     ]
 }
 
-// Removes the last document, if there is one, and returns how many are left.
+// Removes the documents after the first, and returns how many are left.
 fn left(index: &mut RowIndex) -> u32 {
-    if index.docs() > 0 {
-        index.forget_last_doc();
-    }
+    index.cut_docs(1);
     index.docs()
 }
 

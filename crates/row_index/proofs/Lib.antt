@@ -3,7 +3,8 @@ pub mod Halves
 pub mod InPlaces
 pub mod Entries
 pub mod PostLaws
-mod PackedPosts
+pub mod CutLaws
+mod WordPosts
 pub mod TextLaws
 pub mod DateLaws
 pub mod PlaceLists

@@ -180,53 +180,11 @@ module _ {K : Type 0} (eq : K → K → Bool) (sound : (x y : K) → eq x y ≡ 
             | inr c ↦ rw c refl
           ]
 
-  none_of_fewer : (other : K) (n : ℕ) (keys : List K) → is_one_of eq other keys ≡ false → is_one_of eq other (take n keys) ≡ false
-  none_of_fewer other zero keys h = refl
-  none_of_fewer other (suc n) [] h = refl
-  none_of_fewer other (suc n) (key ∷ keys) h =
-      elim (cases_Bool (eq other key)) [
-        | inl b ↦ absurd (true≢false (rw b at h))
-        | inr b ↦ rw b (none_of_fewer other n keys (rw b at h))
-      ]
-
-  -- a place that was put under some of the keys only is taken away again
-  pub undone : (other : K) (n : ℕ) (keys : List K) (p : ℕ) (es part : List (K × List ℕ)) → ends_with p (under eq other es) ≡ false
-      → part ≡ posted_all eq (take n keys) p es → under eq other (unposted_all eq keys p part) ≡ under eq other es
-  undone other n keys p es part f e =
-      let a : under eq other part ≡ (if is_one_of eq other (take n keys) then with_place p (under eq other es) else under eq other es) =
-      ap (λ z. under eq other z) e ∙ under_posted_all other (take n keys) p es in
-      let w : without_place p (under eq other part) ≡ under eq other es = ap (λ z. without_place p z) a ∙ first in
-      let t : without_place p (without_place p (under eq other part)) ≡ without_place p (under eq other part) =
-      ap (λ z. without_place p z) w ∙ not_taken p (under eq other es) f ∙ sym w in
-      under_unposted_all other keys p part t ∙ ended a w
-    where
-      first : without_place p (if is_one_of eq other (take n keys) then with_place p (under eq other es) else under eq other es)
-          ≡ under eq other es
-      first =
-          elim (cases_Bool (is_one_of eq other (take n keys))) [
-            | inl c ↦ rw c (taken_put p (under eq other es) f)
-            | inr c ↦ rw c (not_taken p (under eq other es) f)
-          ]
-
-      ended : under eq other part ≡ (if is_one_of eq other (take n keys) then with_place p (under eq other es) else under eq other es)
-          → without_place p (under eq other part) ≡ under eq other es
-          → (if is_one_of eq other keys then without_place p (under eq other part) else under eq other part) ≡ under eq other es
-      ended a w =
-          elim (cases_Bool (is_one_of eq other keys)) [
-            | inl c ↦ rw c w
-            | inr c ↦ rw c (a ∙ rw (none_of_fewer other n keys c) refl)
-          ]
-
 module _ {K : Type 0} (eq : K → K → Bool) where
   pub posted_onto : (keys : List K) (key : K) (p : ℕ) (es : List (K × List ℕ))
       → posted_all eq (keys ++ key ∷ []) p es ≡ posted eq key p (posted_all eq keys p es)
   posted_onto [] key p es = refl
   posted_onto (k ∷ keys) key p es = posted_onto keys key p (posted eq k p es)
-
-  unposted_onto : (keys : List K) (key : K) (p : ℕ) (es : List (K × List ℕ))
-      → unposted_all eq (keys ++ key ∷ []) p es ≡ unposted eq key p (unposted_all eq keys p es)
-  unposted_onto [] key p es = refl
-  unposted_onto (k ∷ keys) key p es = unposted_onto keys key p (unposted eq k p es)
 
   one_after : (keys : List K) (i : ℕ) (key d : K) → i < length keys → key ≡ slice_index_or keys i d
       → take (suc i) keys ≡ take i keys ++ key ∷ []
@@ -247,12 +205,6 @@ module _ {K : Type 0} (eq : K → K → Bool) where
   posted_step keys i key d p es now next h e n x = x ∙ ap (λ z. posted eq key p z) n ∙ sym (posted_onto (take i keys) key p es)
       ∙ ap (λ z. posted_all eq z p es) (sym (one_more keys i key d h e))
 
-  pub unposted_step : (keys : List K) (i : ℕ) (key d : K) (p : ℕ) (es now next : List (K × List ℕ)) → i < length keys
-      → key ≡ slice_index_or keys i d → now ≡ unposted_all eq (take i keys) p es → next ≡ unposted eq key p now
-      → next ≡ unposted_all eq (take (i + 1) keys) p es
-  unposted_step keys i key d p es now next h e n x = x ∙ ap (λ z. unposted eq key p z) n ∙ sym (unposted_onto (take i keys) key p es)
-      ∙ ap (λ z. unposted_all eq z p es) (sym (one_more keys i key d h e))
-
 -- rows and their places
 
 module _ {K A : Type 0} (eq : K → K → Bool) (sound : (x y : K) → eq x y ≡ true → x ≡ y) (keys : A → List K) (number : A → ℕ) where
@@ -264,7 +216,7 @@ module _ {K A : Type 0} (eq : K → K → Bool) (sound : (x y : K) → eq x y �
   smaller p zero (x ∷ xs) e = below_none x p e.0
   smaller p (suc m) (x ∷ xs) e = smaller p m xs e.1
 
-  below_each : (t : A → Bool) (m n : ℕ) (rows : List A) → Numbered number n rows → 0 < n → n + length rows ≤ m + 1
+  pub below_each : (t : A → Bool) (m n : ℕ) (rows : List A) → Numbered number n rows → 0 < n → n + length rows ≤ m + 1
       → Each (λ k. k < m) (places_of number (filter t rows))
   below_each t m n [] h z w = tt
   below_each t m n (row ∷ rows) h z w =
@@ -296,7 +248,7 @@ module _ {K A : Type 0} (eq : K → K → Bool) (sound : (x y : K) → eq x y �
   places_onto [] ys = refl
   places_onto (x ∷ xs) ys = ap (λ z. (number x - 1) ∷ z) (places_onto xs ys)
 
-  nothing_more : (xs : List ℕ) → xs ++ [] ≡ xs
+  pub nothing_more : (xs : List ℕ) → xs ++ [] ≡ xs
   nothing_more [] = refl
   nothing_more (x ∷ xs) = ap (λ z. x ∷ z) (nothing_more xs)
 
@@ -368,10 +320,3 @@ module _ {K A : Type 0} (eq : K → K → Bool) (sound : (x y : K) → eq x y �
             | inl c ↦ rw c w
             | inr c ↦ rw c (rw c at u)
           ]
-
-  -- a row that was put under some of its keys only, and taken away again
-  pub posts_undone : (rows : List A) (row : A) (n : ℕ) (es part fs : List (K × List ℕ)) → Numbered number 1 rows
-      → part ≡ posted_all eq (take n (keys row)) (length rows) es → fs ≡ unposted_all eq (keys row) (length rows) part
-      → Posts eq keys number rows es → Posts eq keys number rows fs
-  posts_undone rows row n es part fs h e f posts = λ key.
-      ap (λ z. under eq key z) f ∙ undone eq sound key n (keys row) (length rows) es part (fresh_place rows es key h posts) e ∙ posts key

@@ -1,7 +1,7 @@
 -- The places of rows under their keys.
-use Rattle.std.specs.Prelude.{ℕ, ◌-◌, Bool, false, Option, Some, None, List}
-use Rattle.std.specs.Prelude.{[], ◌∷◌, ◌++◌, length, take, nat_eq, slice_get, if◌then◌else◌}
-use Rattle.std.specs.List.{list_any}
+use Rattle.std.specs.Prelude.{ℕ, zero, suc, ◌-◌, Bool, false, Option, Some, None, List}
+use Rattle.std.specs.Prelude.{[], ◌∷◌, ◌++◌, length, map, take, nat_eq, nat_le, slice_get, if◌then◌else◌}
+use Rattle.std.specs.List.{list_any, suffix_len}
 
 -- is there a number, and is it this one?
 abbrev pub is_row_number : ℕ → Option ℕ → Bool
@@ -19,6 +19,21 @@ with_place place places = if ends_with place places then places else places ++ p
 -- the place removed from the end, if it is there
 abbrev pub without_place : ℕ → List ℕ → List ℕ
 without_place place places = if ends_with place places then take (length places - 1) places else places
+
+-- without the places at the end that are this number or more
+abbrev pub cut_places : ℕ → List ℕ → List ℕ
+cut_places len places = take (length places - suffix_len (λ place. nat_le len place) places) places
+
+module _ {K : Type 0} where
+  -- so cut, the places under each key
+  abbrev pub cut_all : ℕ → List (K × List ℕ) → List (K × List ℕ)
+  cut_all len es = map (λ e. (e.0, cut_places len e.1)) es
+
+  -- so cut, the places under the nth key
+  abbrev pub cut_at : ℕ → ℕ → List (K × List ℕ) → List (K × List ℕ)
+  cut_at len n [] = []
+  cut_at len zero (e ∷ es) = (e.0, cut_places len e.1) ∷ es
+  cut_at len (suc n) (e ∷ es) = e ∷ cut_at len n es
 
 module _ {K : Type 0} (eq : K → K → Bool) where
   -- the places under a key

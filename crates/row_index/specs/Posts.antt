@@ -1,8 +1,8 @@
 -- Places that stand under the keys of their rows.
-use Rattle.std.specs.Prelude.{◌≡◌, ℕ, ◌-◌, Bool, List, [], ◌∷◌, take, filter, map}
+use Rattle.std.specs.Prelude.{◌≡◌, ℕ, ◌-◌, Bool, false, List, [], ◌∷◌, ◌++◌, take, filter, map, if◌then◌else◌}
 use Rattle.std.specs.Str.{bytes_eq}
 use Rattle.std.specs.List.{list_any}
-use Rattle.row_index.specs.Places.{under, posted, unposted}
+use Rattle.row_index.specs.Places.{under, ends_with, posted, unposted}
 
 -- the place put under each of the keys
 abbrev pub posted_all : {K : Type 0} → (K → K → Bool) → List K → ℕ → List (K × List ℕ) → List (K × List ℕ)
@@ -17,6 +17,14 @@ unposted_all eq (key ∷ keys) place es = unposted_all eq keys place (unposted e
 -- the place was put under the first few of the texts
 abbrev pub IsPartlyPosted : List (List ℕ) → ℕ → List (List ℕ × List ℕ) → List (List ℕ × List ℕ) → Type 0
 IsPartlyPosted keys place es fs = (n : ℕ) × (fs ≡ posted_all bytes_eq (take n keys) place es)
+
+-- the place isn't the last one under any text
+abbrev pub IsFreePlace : ℕ → List (List ℕ × List ℕ) → Type 0
+IsFreePlace place es = (key : List ℕ) → ends_with place (under bytes_eq key es) ≡ false
+
+-- the words that are noted after this one: with it, unless the place is the last one under it
+abbrev pub noted_then : ℕ → List ℕ → List (List ℕ × List ℕ) → List (List ℕ) → List (List ℕ)
+noted_then place word es noted = if ends_with place (under bytes_eq word es) then noted else noted ++ word ∷ []
 
 -- is this key one of these?
 abbrev pub is_one_of : {K : Type 0} → (K → K → Bool) → K → List K → Bool

@@ -8,10 +8,6 @@ use Rattle.tap_rows.specs.declared.rows.Note.{Note}
 abbrev pub rows_alone : List Doc → List Note → Tables
 rows_alone docs notes = record { docs = docs; notes = notes; queries = []; runs = []; picks = []; filters = [] }
 
--- without the last document
-abbrev pub without_last_doc : Tables → Tables
-without_last_doc tables = record tables { docs = take (length tables.docs - 1) tables.docs }
-
 -- without the last note
 abbrev pub without_last_note : Tables → Tables
 without_last_note tables = record tables { notes = take (length tables.notes - 1) tables.notes }

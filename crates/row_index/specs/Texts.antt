@@ -3,11 +3,13 @@ use Rattle.std.specs.Prelude.{◌≡◌, ◌+◌, List, ℕ, Bool, true, false, 
 use Rattle.std.specs.Str.{bytes_eq}
 use Rattle.std.specs.Option.{option_to_list}
 use Rattle.tap_rows.specs.declared.rows.Doc.{Doc}
+use Rattle.tap_rows.specs.declared.fields.Fields.{Fields}
 use Rattle.row_index.specs.declared.doc_texts.DocTexts.{DocTexts}
 use Rattle.row_index.specs.declared.text_kind.TextKind.{TextKind}
 use Rattle.row_index.specs.declared.text_kind.TextKind.TheVariants.{MsgId, Parent, Sender, Subject, Reference, Word}
 use Rattle.row_index.specs.Orders.{Numbered, doc_number}
-use Rattle.row_index.specs.Posts.{Posts, posted_all, unposted_all, IsPartlyPosted, with_key}
+use Rattle.row_index.specs.Places.{cut_all}
+use Rattle.row_index.specs.Posts.{Posts, posted_all, IsPartlyPosted, with_key}
 use Rattle.tap_rows.specs.Fields.{fields}
 
 -- the texts of a document by which it is found: its message id
@@ -68,6 +70,24 @@ pub record IsNext (docs : List Doc) (doc : Doc) (place : ℕ) : Type 0 where
   pub number : doc.num.0 ≡ length docs + 1
   pub behind : place ≡ length docs
 
+-- a document was put under all its texts but its words
+pub record ArePosted (fields : Fields) (place : ℕ) (old new : DocTexts) : Type 0 where
+  pub msgid : new.msgid ≡ posted_all bytes_eq (option_to_list fields.msgid) place old.msgid
+  pub parent : new.parent ≡ posted_all bytes_eq (option_to_list fields.inreplyto) place old.parent
+  pub sender : new.sender ≡ posted_all bytes_eq (option_to_list fields.from) place old.sender
+  pub subject : new.subject ≡ posted_all bytes_eq (option_to_list fields.subject) place old.subject
+  pub reference : new.reference ≡ posted_all bytes_eq fields.references place old.reference
+  pub word : new.word ≡ old.word
+
+-- a document was put under some of these texts
+pub record ArePartly (fields : Fields) (place : ℕ) (old new : DocTexts) : Type 0 where
+  pub msgid : IsPartlyPosted (option_to_list fields.msgid) place old.msgid new.msgid
+  pub parent : IsPartlyPosted (option_to_list fields.inreplyto) place old.parent new.parent
+  pub sender : IsPartlyPosted (option_to_list fields.from) place old.sender new.sender
+  pub subject : IsPartlyPosted (option_to_list fields.subject) place old.subject new.subject
+  pub reference : IsPartlyPosted fields.references place old.reference new.reference
+  pub word : new.word ≡ old.word
+
 -- a document was put under all its texts
 pub record IsPosted (doc : Doc) (place : ℕ) (old new : DocTexts) : Type 0 where
   pub msgid : new.msgid ≡ posted_all bytes_eq (msgids doc) place old.msgid
@@ -86,11 +106,11 @@ pub record IsPartly (doc : Doc) (place : ℕ) (old new : DocTexts) : Type 0 wher
   pub reference : IsPartlyPosted (references_in doc) place old.reference new.reference
   pub word : IsPartlyPosted (words_in doc) place old.word new.word
 
--- a document was taken away from all its texts
-pub record IsUnposted (doc : Doc) (place : ℕ) (old new : DocTexts) : Type 0 where
-  pub msgid : new.msgid ≡ unposted_all bytes_eq (msgids doc) place old.msgid
-  pub parent : new.parent ≡ unposted_all bytes_eq (parents doc) place old.parent
-  pub sender : new.sender ≡ unposted_all bytes_eq (senders doc) place old.sender
-  pub subject : new.subject ≡ unposted_all bytes_eq (subjects doc) place old.subject
-  pub reference : new.reference ≡ unposted_all bytes_eq (references_in doc) place old.reference
-  pub word : new.word ≡ unposted_all bytes_eq (words_in doc) place old.word
+-- the places from len on were removed from under all texts
+pub record IsCut (len : ℕ) (old new : DocTexts) : Type 0 where
+  pub msgid : new.msgid ≡ cut_all len old.msgid
+  pub parent : new.parent ≡ cut_all len old.parent
+  pub sender : new.sender ≡ cut_all len old.sender
+  pub subject : new.subject ≡ cut_all len old.subject
+  pub reference : new.reference ≡ cut_all len old.reference
+  pub word : new.word ≡ cut_all len old.word

@@ -1,17 +1,17 @@
 //! The places of documents by their texts.
 
-ghost use Rattle.std.specs.Prelude.{◌≡◌, ◌+◌, List, [], ◌∷◌, ◌++◌, OnOk, OnErr};
+ghost use Rattle.std.specs.Prelude.{◌≡◌, ◌+◌, List, [], ◌∷◌, ◌++◌, IfOk, OnOk, OnErr};
 ghost use Rattle.tap_rows.specs.declared.rows.Doc.{Doc};
 ghost use Rattle.row_index.specs.Orders.{doc_number};
-ghost use Rattle.row_index.specs.Posts.{places_of};
-ghost use Rattle.row_index.specs.Texts.{IsNext, TextPosts, IsPosted, IsPartly, IsUnposted};
-ghost use Rattle.row_index.specs.Texts.{with_text, texts_of};
+ghost use Rattle.row_index.specs.Posts.{places_of, IsFreePlace};
+ghost use Rattle.row_index.specs.Texts.{IsNext, TextPosts, IsPosted, IsPartly, ArePosted};
+ghost use Rattle.row_index.specs.Texts.{ArePartly, IsCut, with_text, texts_of, words_in};
 ghost use Rattle.tap_rows.specs.Fields.{fields};
 
 use crate::postings::Postings;
 use crate::text_kind::TextKind;
 use std::alloc::Global;
-use tap_base::{HashKey, Memory};
+use tap_base::{HashKey, Memory, MessageWords};
 use tap_rows::{Fields, KeptDoc};
 
 /// The places of documents by message id, by the message id that they reply to, by sender, by
@@ -64,37 +64,50 @@ impl DocTexts {
         }
     }
 
-    // Puts the place under each text of the document. After `Memory` it is under some of them.
-    fn put(&mut self, doc: &KeptDoc, place: u32) -> Result<(), Memory>
-        ensures ok { OnOk result (IsPosted doc.now place self.old self.new) }
-        ensures err { OnErr result (IsPartly doc.now place self.old self.new) }
+    // Puts the place under each text of the document but its words. After `Memory` it is under some
+    // of them.
+    fn put_single(&mut self, fields: &Fields, place: u32) -> Result<(), Memory>
+        ensures ok { OnOk result (ArePosted fields.now place self.old self.new) }
+        ensures err { OnErr result (ArePartly fields.now place self.old self.new) }
     {
-        let fields = fields_in(doc);
         self.msgid.add_some(&fields.msgid, place)?;
         self.parent.add_some(&fields.inreplyto, place)?;
         self.sender.add_some(&fields.from, place)?;
         self.subject.add_some(&fields.subject, place)?;
-        self.reference.add_all(fields.references.as_slice(), place)?;
-        self.word.add_packed(&fields.words, place)
+        self.reference.add_all(fields.references.as_slice(), place)
     }
 
-    // Removes the place from under each text of the document.
-    fn take(&mut self, doc: &KeptDoc, place: u32)
-        ensures { IsUnposted doc.now place self.old self.new }
+    // Puts the place under each text of the document, and returns its words, whose places are known
+    // then. After `Memory` it is under some of the texts.
+    fn put(&mut self, doc: &KeptDoc, place: u32) -> Result<MessageWords, Memory>
+        requires { IsFreePlace place self.old.word }
+        ensures ok { OnOk result (IsPosted doc.now place self.old self.new) }
+        ensures err { OnErr result (IsPartly doc.now place self.old self.new) }
+        ensures words { IfOk result (λ words. words ≡ words_in doc.now) }
     {
         let fields = fields_in(doc);
-        self.msgid.forget_some(&fields.msgid, place);
-        self.parent.forget_some(&fields.inreplyto, place);
-        self.sender.forget_some(&fields.from, place);
-        self.subject.forget_some(&fields.subject, place);
-        self.reference
-            .forget_all(fields.references.as_slice(), place);
-        self.word.forget_packed(&fields.words, place);
+        self.put_single(fields, place)?;
+        self.word.add_message(&fields.words, place)
     }
 
-    /// Adds the document under its texts, at the place after those of `docs`. After an error they
-    /// are found as before.
-    pub(crate) fn add(&mut self, doc: &KeptDoc, place: u32) -> Result<(), Memory>
+    /// Removes the documents from place `len` on from under their texts. It looks at each text of
+    /// the index once.
+    pub(crate) fn cut(&mut self, len: u32)
+        ensures { IsCut len self.old self.new }
+    {
+        self.msgid.cut(len);
+        self.parent.cut(len);
+        self.sender.cut(len);
+        self.subject.cut(len);
+        self.reference.cut(len);
+        self.word.cut(len);
+    }
+
+    /// Adds the document under its texts, at the place after those of `docs`, and returns its
+    /// words, whose places are known then. After an error the documents are found as before.
+    pub(crate) fn add(&mut self, doc: &KeptDoc, place: u32) -> Result<MessageWords, Memory>
+        requires { IsFreePlace place self.old.word }
+        ensures words { IfOk result (λ words. words ≡ words_in doc.now) }
         ensures ok { OnOk result ((docs : List Doc) → IsNext docs doc.now place
             → TextPosts docs self.old → TextPosts (docs ++ doc.now ∷ []) self.new) }
         ensures err { OnErr result ((docs : List Doc) → IsNext docs doc.now place
@@ -102,16 +115,8 @@ impl DocTexts {
     {
         let done = self.put(doc, place);
         if done.is_err() {
-            self.take(doc, place);
+            self.cut(place);
         }
         done
-    }
-
-    /// Removes the document from under its texts.
-    pub(crate) fn forget(&mut self, doc: &KeptDoc, place: u32)
-        ensures { (docs : List Doc) → IsNext docs doc.now place
-            → TextPosts (docs ++ doc.now ∷ []) self.old → TextPosts docs self.new }
-    {
-        self.take(doc, place);
     }
 }

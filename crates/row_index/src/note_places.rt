@@ -63,7 +63,10 @@ impl NotePlaces {
         ensures err { OnErr result (self.new ≡ self.old) }
     {
         match self.places.get_mut(&key) {
-            Some(places) => put_place(places, place),
+            Some(places) => {
+                put_place(places, place)?;
+                Ok(())
+            }
             None => self.begin(key, place),
         }
     }

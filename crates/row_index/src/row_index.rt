@@ -2,7 +2,7 @@
 
 ghost use Rattle.std.specs.Prelude.{◌≡◌, ◌+◌, ◌<◌, ℤ, pos, ◌≤ℤ◌, []};
 ghost use Rattle.std.specs.Prelude.{◌∷◌, length, nat_eq, option_copied, option_to_list, slice_get};
-ghost use Rattle.std.specs.Prelude.{OnOk, OnErr};
+ghost use Rattle.std.specs.Prelude.{take, OnOk, OnErr};
 ghost use Rattle.std.specs.List.{find};
 ghost use Rattle.tap_rows.specs.declared.rows.Doc.{Doc};
 ghost use Rattle.tap_rows.specs.declared.rows.Note.{Note};
@@ -17,11 +17,11 @@ ghost use Rattle.row_index.specs.Texts.{with_text, texts_of, msgids, parents, se
 ghost use Rattle.row_index.specs.Texts.{references_in, words_in};
 ghost use Rattle.row_index.specs.Dates.{dated_in};
 ghost use Rattle.row_index.specs.Held.{indexed_notes, AreOnDocs};
-ghost use Rattle.row_index.specs.Rows.{without_last_doc, without_last_note};
+ghost use Rattle.row_index.specs.Rows.{without_last_note};
 ghost use Rattle.tap_base.specs.Numbers.{IsMoment};
 
 use crate::arrivals::{docs_up_to, docs_within, notes_up_to, notes_within, places_within};
-use crate::doc_places::DocPlaces;
+use crate::doc_places::{DocPlaces, cut_docs};
 use crate::note_places::NotePlaces;
 use crate::posting_list::PostingList;
 use crate::text_kind::TextKind;
@@ -277,7 +277,9 @@ impl RowIndex {
         let place = doc_num(&doc) - 1;
         // Memory first, so that the push after the indexes can't fail.
         self.docs.reserve(1)?;
-        self.places.add(&doc, place)?;
+        let words = self.places.add(&doc, place)?;
+        let mut doc = doc;
+        doc.set_words(words);
         self.docs.push(doc)?;
         Ok(())
     }
@@ -298,16 +300,12 @@ impl RowIndex {
         Ok(())
     }
 
-    /// Removes the last document. It takes no memory.
-    pub fn forget_last_doc(&mut self)
-        requires { 0 < length self.old.docs }
-        ensures last { self.new ≡ without_last_doc self.old }
-        ensures undone { (before : Tables) (doc : Doc) → self.old ≡ after before (Docs (doc ∷ []))
-            → self.new ≡ before }
+    /// Removes the documents after the first `len`. It takes no memory. It looks at each text of
+    /// the index once, however many documents are removed.
+    pub fn cut_docs(&mut self, len: usize)
+        ensures { self.new ≡ record self.old { docs = take len self.old.docs } }
     {
-        if let Some(doc) = self.docs.pop() {
-            self.places.forget(&doc, self.docs.len() as u32);
-        }
+        cut_docs(&mut self.docs, &mut self.places, len);
     }
 
     /// Removes the last note. It takes no memory.

@@ -4,5 +4,9 @@ pub mod Missing
 pub mod Digits
 pub mod Forms
 pub mod WordLaws
+pub mod WordCuts
+pub mod WordPlaces
+pub mod EndLaws
+pub mod FirstLaws
+pub mod Reading
 pub mod ShortLaws
-mod PackedLaws

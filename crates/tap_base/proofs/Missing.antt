@@ -9,11 +9,11 @@ use Rattle.std.proofs.Math.Seq.{drop-append_seam}
 use Rattle.tap_base.specs.Words.{with_new, has_text}
 
 -- the texts that are not in the list yet, in order of first appearance
-abbrev missing : List (List ℕ) → List (List ℕ) → List (List ℕ)
+abbrev pub missing : List (List ℕ) → List (List ℕ) → List (List ℕ)
 missing held [] = []
 missing held (x ∷ xs) = if has_text held x then missing held xs else x ∷ missing (held ++ x ∷ []) xs
 
-with_missing : (held xs : List (List ℕ)) → with_new held xs ≡ held ++ missing held xs
+pub with_missing : (held xs : List (List ℕ)) → with_new held xs ≡ held ++ missing held xs
 with_missing held [] = sym (append-nil held)
 with_missing held (x ∷ xs) =
     elim (has_text held x) as (λ b. (if b then with_new held xs else with_new (held ++ x ∷ []) xs)
@@ -35,7 +35,7 @@ same_missing a b same (x ∷ xs) =
     ])
 
 -- a text that is there already adds nothing
-absorbed : (held : List (List ℕ)) (x t : List ℕ) (rest : Bool) → has_text held x ≡ true
+pub absorbed : (held : List (List ℕ)) (x t : List ℕ) (rest : Bool) → has_text held x ≡ true
     → (has_text held t || (bytes_eq t x || rest)) ≡ (has_text held t || rest)
 absorbed held x t rest there = go (bytes_eq t x) refl where
   go : (b : Bool) → bytes_eq t x ≡ b → (has_text held t || (bytes_eq t x || rest)) ≡ (has_text held t || rest)

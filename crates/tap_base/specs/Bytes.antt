@@ -1,5 +1,5 @@
 -- Kinds of bytes, and places in texts and lists.
-use Rattle.std.specs.Prelude.{ℕ, Bool, ◌||◌, ◌==◌, ◌<◌, ◌≤◌, List, [], ◌∷◌, length}
+use Rattle.std.specs.Prelude.{◌≡◌, ℕ, Bool, ◌||◌, ◌==◌, ◌<◌, ◌≤◌, ◌-◌, List, [], ◌∷◌, length, drop}
 use Rattle.std.specs.Prelude.{if◌then◌else◌}
 
 -- a blank: a space or a tab
@@ -21,6 +21,11 @@ IsPlaceOrEnd text at = at ≤ length text
 -- a place of a list, as a node's number is one of its pool
 abbrev pub IsPlaceOf : {A : Type 0} → List A → ℕ → Type 0
 IsPlaceOf items place = place < length items
+
+-- the one text is the end of the other
+pub record IsEndOf (rest text : List ℕ) : Type 0 where
+  pub within : length rest ≤ length text
+  pub bytes : drop (length text - length rest) text ≡ rest
 
 -- a byte of a quoted text: a quote is written twice
 abbrev pub doubled : ℕ → List ℕ

@@ -7,5 +7,6 @@ pub mod LineWords
 pub mod Laws
 pub mod Ledgers
 pub mod Stores
-pub mod Packed
+pub mod Runs
+pub mod FirstPlaces
 pub mod Prefixes

@@ -1,6 +1,7 @@
 //! The key under which maps hash what comes from mail and from queries.
 
-use std::hash::{BuildHasher, DefaultHasher, RandomState};
+use crate::run_hasher::RunHasher;
+use std::hash::{BuildHasher, RandomState};
 use std::random::RandomSource;
 
 /// The key under which a map hashes its keys, by SipHash-1-3. Whoever doesn't know it can't choose
@@ -8,7 +9,7 @@ use std::random::RandomSource;
 #[derive(Clone, Copy)]
 pub struct HashKey {
     // A hasher that has been given the key and nothing else.
-    start: DefaultHasher,
+    start: RunHasher,
 }
 
 impl HashKey {
@@ -16,7 +17,7 @@ impl HashKey {
     /// chooses to collide.
     pub fn fixed() -> HashKey {
         HashKey {
-            start: DefaultHasher::new(),
+            start: RunHasher::keyed(0, 0),
         }
     }
 
@@ -24,7 +25,7 @@ impl HashKey {
     pub fn draw(rt: &impl RandomSource) -> HashKey {
         match RandomState::new(rt) {
             Ok(state) => HashKey {
-                start: state.build_hasher(),
+                start: RunHasher::keyed(state.hash_one(0u64), state.hash_one(1u64)),
             },
             Err(_) => HashKey::fixed(),
         }
@@ -32,11 +33,11 @@ impl HashKey {
 }
 
 impl BuildHasher for HashKey {
-    type Hasher = DefaultHasher;
+    type Hasher = RunHasher;
 
     ghost build_hasher = { λ key. key.start };
 
-    fn build_hasher(&self) -> DefaultHasher {
+    fn build_hasher(&self) -> RunHasher {
         self.start
     }
 }

@@ -10,7 +10,6 @@ ghost use Rattle.tap_model.specs.Verdicts.{bytes_of_all};
 ghost use Rattle.tap_model.specs.Replies.{docs_from, some_docs};
 
 use crate::engine::Engine;
-use crate::undoing::remove_docs;
 use mail_fields::keep;
 use row_index::RowIndex;
 use script_lang::MESSAGE_LIMIT;
@@ -115,7 +114,7 @@ fn add_all(
     let len = index.docs() as usize;
     let done = push_docs(alloc, index, moment, texts);
     if done.is_err() {
-        remove_docs(index, len);
+        index.cut_docs(len);
     }
     done
 }

@@ -1,19 +1,9 @@
 //! The undoing of a command whose rows were not committed.
 
-ghost use Rattle.std.specs.Prelude.{◌≡◌, take};
+ghost use Rattle.std.specs.Prelude.{◌≡◌};
 
 use crate::engine::Engine;
 use crate::undo::Undo;
-use row_index::RowIndex;
-
-// Removes the documents after the first `len`.
-pub(crate) fn remove_docs(index: &mut RowIndex, len: usize)
-    ensures { index.new ≡ record index.old { docs = take len index.old.docs } }
-{
-    while index.docs() as usize > len {
-        index.forget_last_doc();
-    }
-}
 
 impl Engine {
     ghost use Rattle.tap_engine.specs.Answering.{undone, CanUndo};
@@ -26,7 +16,7 @@ impl Engine {
         match undo {
             Undo::Nothing => {}
             Undo::Docs { len, bytes } => {
-                remove_docs(&mut self.index, len);
+                self.index.cut_docs(len);
                 self.bytes = bytes;
             }
             Undo::Note { bytes, vote } => {

@@ -3,9 +3,8 @@ use Rattle.std.specs.Prelude.{ℕ, List, [], ◌++◌, length, codes, Option}
 use Rattle.std.specs.List.{flat_map}
 use Rattle.std.specs.Option.{option_and_then, option_to_list}
 use Rattle.tap_base.specs.Words.{words, with_new}
-use Rattle.tap_rows.specs.declared.header_field.HeaderField.{HeaderField}
 use Rattle.tap_rows.specs.declared.fields.Fields.{Fields}
-use Rattle.tap_rows.specs.Headers.{message_lines, header_of, body_of, values_of, first_of}
+use Rattle.tap_rows.specs.Headers.{HeaderField, message_lines, header_of, body_of, values_of, first_of}
 use Rattle.tap_rows.specs.Entries.{listed, referred, identified}
 use Rattle.tap_rows.specs.Dates.{date_of}
 use Rattle.tap_rows.specs.declared.rows.Doc.{Doc}
@@ -33,7 +32,7 @@ fields_in header body size = record {
   to = flat_map listed (values_of (codes "To") header);
   cc = flat_map listed (values_of (codes "Cc") header);
   newsgroups = flat_map listed (values_of (codes "Newsgroups") header);
-  references = flat_map referred (values_of (codes "References") header);
+  references = with_new [] (flat_map referred (values_of (codes "References") header));
   words = message_words (value_of (codes "Subject") header) body;
   size = size;
 }

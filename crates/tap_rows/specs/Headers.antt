@@ -6,7 +6,11 @@ use Rattle.std.specs.Str.{str_eq_ignore_ascii_case}
 use Rattle.std.specs.Str.Lines.{lines}
 use Rattle.tap_base.specs.Bytes.{is_blank}
 use Rattle.tap_base.specs.LineWords.{after_blanks}
-use Rattle.tap_rows.specs.declared.header_field.HeaderField.{HeaderField}
+
+-- a field of a header: its name, and what follows its colon, with the lines that continue it appended unchanged (RFC 5322 2.2.3)
+pub record HeaderField : Type 0 where
+  pub name : List ℕ
+  pub unfolded : List ℕ
 
 -- the bytes without the blanks at their end
 abbrev pub without_blank_end : List ℕ → List ℕ

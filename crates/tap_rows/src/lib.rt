@@ -5,7 +5,6 @@ mod change;
 mod copies;
 mod fields;
 mod fits;
-mod header_field;
 mod kept_doc;
 pub mod laws;
 mod results;
@@ -15,7 +14,6 @@ mod tables;
 
 pub use change::Change;
 pub use fields::Fields;
-pub use header_field::HeaderField;
 pub use kept_doc::KeptDoc;
 pub use results::{Entry, Hit, Listed};
 pub use rows::{Doc, FilterRow, Note, Pick, QueryRow, RunRow};

@@ -2,3 +2,4 @@ pub mod OfTheSecond
 pub mod Growth
 pub mod Equal
 pub mod Slots
+pub mod WordLaws

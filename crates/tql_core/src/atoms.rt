@@ -12,7 +12,7 @@ use crate::row_ref::fields;
 use crate::values::value;
 use crate::{Atom, Env, ListField, NumExpr, NumField, RowRef, TextExpr, TextField, Var};
 use std::cmp::Ordering;
-use tap_base::{Op, PackedTexts, Text};
+use tap_base::{MessageWords, Op, Text};
 
 /// Returns whether the comparison of the two numbers holds.
 pub fn compares(op: Op, x: i128, y: i128) -> bool
@@ -166,17 +166,11 @@ fn holds_text(texts: &[Text], text: &[u8]) -> bool
     false
 }
 
-// Returns whether the text is one of these that lie one after the other.
-fn holds_packed(texts: &PackedTexts, text: &[u8]) -> bool
-    ensures { result ≡ list_any (λ x. is_eq (text_cmp x text.now)) texts.now }
+// Returns whether the text is one of the words of a message.
+fn holds_word(words: &MessageWords, text: &[u8]) -> bool
+    ensures { result ≡ list_any (λ x. is_eq (text_cmp x text.now)) words.now }
 {
-    let mut rest = texts.walk();
-    while let Some(held) = rest.next() {
-        if is_same(held, text) {
-            return true;
-        }
-    }
-    false
+    words.holds(text)
 }
 
 // Returns whether a list of the row has the text, which it doesn't if its table has no such field.
@@ -189,7 +183,7 @@ fn row_has(field: ListField, row: RowRef<'_>, text: &[u8]) -> bool
             ListField::Cc => holds_text(fields(doc).cc.as_slice(), text),
             ListField::Newsgroups => holds_text(fields(doc).newsgroups.as_slice(), text),
             ListField::References => holds_text(fields(doc).references.as_slice(), text),
-            ListField::Words => holds_packed(&fields(doc).words, text),
+            ListField::Words => holds_word(&fields(doc).words, text),
         },
         RowRef::OfNote(_) => false,
     }

@@ -1,9 +1,8 @@
 use Rattle.std.proofs.Common.{[], ◌∷◌, inl, inr, arith}
 use Rattle.sqlite.specs.Held.{state}
 use Rattle.sqlite.specs.State.{HasCleanDisk}
-use Rattle.keeper_sql.specs.Schema.{insert_pick}
-use Rattle.keeper_sql.specs.RowsAsValues.{only, as_kept, given_run, given_pick}
-use Rattle.keeper_sql.specs.Failing.{FailsToInsert, FailsToInsertRows}
+use Rattle.keeper_sql.specs.RowsAsValues.{only, as_kept, given_run}
+use Rattle.keeper_sql.specs.Failing.{FailsToInsertPicks, FailsToInsertRows}
 use Rattle.tap_rows.specs.declared.change.Change.TheVariants.{RunDone}
 use Rattle.keeper_sql.proofs.FailingLemmas.{at_once, reaches_rows, then_fails}
 use Rattle.keeper_sql.proofs.change.insert_run_done.Goals as goal
@@ -20,6 +19,5 @@ returns-clause-fails g c clean inside =
     let early : HasCleanDisk (state g.S.Store mid) = omega (arith, c.insert_picks.ensures.survives.clean) in
     let reached = reaches_rows g.S.Store (only 4 (as_kept (given_run c.args.run.now) ∷ [])) old mid
     c.insert_run.ensures.survives (c.in_default.ensures.ok early inside) in
-    then_fails g.S.Store (FailsToInsert insert_pick given_pick c.args.picks.now)
-    (FailsToInsertRows (RunDone c.args.run.now c.args.picks.now)) old mid c.insert_picks.new.tx.conn.now
-    c.insert_picks.result reached (λ a b e h. inr h) clean c.insert_picks.ensures.fails
+    then_fails g.S.Store (FailsToInsertPicks c.args.picks.now) (FailsToInsertRows (RunDone c.args.run.now c.args.picks.now)) old mid
+    c.insert_picks.new.tx.conn.now c.insert_picks.result reached (λ a b e h. inr h) clean c.insert_picks.ensures.fails

@@ -1,48 +1,90 @@
-use Rattle.std.proofs.Common.{◌≡◌, ◌+◌, ◌<◌, length, List, [], ◌∷◌, ◌++◌, map, take, arith, ap, ◌∙◌, slice_index_or, pos}
-use Rattle.std.proofs.lemmas.Grind.{common_steps}
-use Rattle.std.proofs.lemmas.List.{map-append, get_or_default}
-use Rattle.sqlite_value.specs.Order.{Row}
+use Rattle.std.proofs.Common.{◌≡◌, ◌+◌, ◌-◌, ◌≤◌, List, ◌++◌, map, take, drop, length, arith, ap, sym, ◌∙◌, inl, inr, subst}
+use Rattle.std.specs.List.{flat_map}
+use Rattle.std.proofs.lemmas.Result.{on_ok_weaker, on_err_weaker}
 use Rattle.sqlite.specs.Held.{state}
 use Rattle.sqlite.specs.State.{HasCleanDisk, Survives}
 use Rattle.sqlite.proofs.StateLemmas.{survives_then}
 use Rattle.tap_rows.specs.declared.rows.Pick.{Pick}
-use Rattle.keeper_sql.specs.RowsAsValues.{given_pick, pick_in, as_kept, only}
-use Rattle.keeper_sql.proofs.Steps.{went_then, only_both}
-use Rattle.keeper_sql.proofs.FailingLemmas.{reaches_rows}
-use Rattle.keeper_sql.proofs.ReadBack.{read_more}
+use Rattle.keeper_sql.specs.RowsAsValues.{given_pick, pick_in, only}
+use Rattle.keeper_sql.specs.Schema.{insert_pick}
+use Rattle.keeper_sql.specs.Failing.{FailsToInsert, FailsToInsertPicks, FailsToWrite, eight_from}
+use Rattle.keeper_sql.proofs.Steps.{went_then, went_undone, only_both}
+use Rattle.keeper_sql.proofs.FailingLemmas.{reaches_rows, then_fails}
+use Rattle.keeper_sql.proofs.EightPicks.{row_of, eight_range, eight_more, rest_more, rows_both, read_both, one_of_rest}
 use Rattle.keeper_sql.proofs.picks.insert_picks.Goals as goal
 
-pub adds-preserved : goal.adds-preserved
-adds-preserved g c =
+pub eights-preserved : goal.eights-preserved
+eights-preserved g c =
     let old = state g.S.Store c.args.tx.now.conn.now in
-    let mid = state g.S.Store c.adds.tx.conn.now in
-    let new = state g.S.Store c.insert_pick.new.tx.conn.now in
+    let mid = state g.S.Store c.eights.tx.conn.now in
+    let new = state g.S.Store c.insert_eight.new.tx.conn.now in
+    let n = c.eights.done in
+    let picks = c.args.picks.now in
     let survives : Survives old new (λ _. ⊥) =
-    survives_then old mid new _ _ _ (λ _ db none. none) (λ _ db none. none) c.adds.invariant.1 c.insert_pick.ensures.survives in
-    let f : Pick → Row = λ x. as_kept (given_pick x) in
-    let first : List Pick = take c.adds.pick-index c.args.picks.now in
-    let item : Pick = slice_index_or c.args.picks.now c.adds.pick-index
-    (record { num = 0; query = record { 0 = 0 }; run = 0; doc = record { 0 = 0 }; first = pos 0 }) in
-    let more : take (c.adds.pick-index + 1) c.args.picks.now ≡ first ++ item ∷ [] = grind (arith, common_steps) in
-    let rows : map f (take (c.adds.pick-index + 1) c.args.picks.now) ≡ map f first ++ f item ∷ [] = ap (map f) more
-    ∙ map-append f first (item ∷ []) in (
-      c.insert_pick.ensures.same_reference ∙ c.adds.invariant.0,
+    survives_then old mid new _ _ _ (λ _ db none. none) (λ _ db none. none) c.eights.invariant.2 c.insert_eight.ensures.survives in
+    let eight : List Pick = take (n + 8 - n) (drop n picks) in
+    let fits : n + 8 ≤ length picks = omega arith in
+    let more : take (n + 8) picks ≡ take n picks ++ eight = eight_range picks n fits in (
+      fits,
+      c.insert_eight.ensures.same_reference ∙ c.eights.invariant.1,
       survives,
       λ clean inside.
-          let early : HasCleanDisk mid = omega (arith, c.insert_pick.ensures.survives.clean) in
-          let was = c.adds.invariant.2 early inside in
-          went_then (only 5 (map f first)) (only 5 (f item ∷ [])) _ old mid new (only_both 5 (map f first) (f item ∷ []) _ rows) was
+          let early : HasCleanDisk mid = omega (arith, c.insert_eight.ensures.survives.clean) in
+          let was = c.eights.invariant.3 early inside in
+          went_then (only 5 (map row_of (take n picks))) (only 5 (map row_of eight)) _ old mid new
+          (only_both 5 (map row_of (take n picks)) (map row_of eight) _ (rows_both (take n picks) eight _ more)) was
           (c.in_default.ensures.ok clean was.mode),
-      read_more pick_in f first item _ _ rows more c.adds.invariant.3 c.in_default.ensures.read,
+      read_both (take n picks) eight _ more c.eights.invariant.4 c.in_default.ensures.read,
     )
 
 pub returns-in-Err-clause-fails : goal.returns-in-Err-clause-fails
 returns-in-Err-clause-fails g c clean inside =
-    let mid = c.adds.tx.conn.now in
-    let early : HasCleanDisk (state g.S.Store mid) = omega (arith, c.insert_pick.ensures.survives.clean) in
-    let reached = reaches_rows g.S.Store _ c.args.tx.now.conn.now mid c.adds.invariant.1 (c.adds.invariant.2 early inside) in
-    let at = c.adds.pick-index in
-    let item : Pick =
-    slice_index_or c.args.picks.now at (record { num = 0; query = record { 0 = 0 }; run = 0; doc = record { 0 = 0 }; first = pos 0 }) in
-    let within : at < length c.args.picks.now = omega arith in
-    (mid, reached, (item, (at, within, get_or_default c.args.picks.now at _ item within), c.in-Err.ensures.fails clean reached.mode))
+    let mid = c.eights.tx.conn.now in
+    let n = c.eights.done in
+    let picks = c.args.picks.now in
+    let early : HasCleanDisk (state g.S.Store mid) = omega (arith, c.insert_eight.ensures.survives.clean) in
+    let reached = reaches_rows g.S.Store _ c.args.tx.now.conn.now mid c.eights.invariant.2 (c.eights.invariant.3 early inside) in
+    let len : n + 8 - n ≡ 8 = omega arith in
+    (mid, reached, inr (n, omega arith, rw len at (c.in-Err.ensures.fails clean reached.mode)))
+
+pub returns-clause-ok : goal.returns-clause-ok
+returns-clause-ok g c clean inside =
+    let old = state g.S.Store c.args.tx.now.conn.now in
+    let mid = state g.S.Store c.eights.tx.conn.now in
+    let new = state g.S.Store c.insert_each.new.tx.conn.now in
+    let n = c.eights.done in
+    let picks = c.args.picks.now in
+    let early : HasCleanDisk mid = omega (arith, c.insert_each.ensures.survives.clean) in
+    let was = c.eights.invariant.3 early inside in
+    let rest : List Pick = take (length picks - n) (drop n picks) in
+    on_ok_weaker c.insert_each.result (λ wrote. went_then (only 5 (map row_of (take n picks))) (only 5 (map row_of rest)) _ old mid new
+    (only_both 5 (map row_of (take n picks)) (map row_of rest) _ (rows_both (take n picks) rest picks (rest_more picks n))) was wrote)
+    (c.insert_each.ensures.ok clean was.mode)
+
+pub returns-clause-err : goal.returns-clause-err
+returns-clause-err g c clean inside =
+    let old = state g.S.Store c.args.tx.now.conn.now in
+    let mid = state g.S.Store c.eights.tx.conn.now in
+    let new = state g.S.Store c.insert_each.new.tx.conn.now in
+    let early : HasCleanDisk mid = omega (arith, c.insert_each.ensures.survives.clean) in
+    let was = c.eights.invariant.3 early inside in
+    on_err_weaker c.insert_each.result (λ undone. went_undone _ old mid new was undone) (c.insert_each.ensures.err clean was.mode)
+
+pub returns-clause-fails : goal.returns-clause-fails
+returns-clause-fails g c clean inside =
+    let old = c.args.tx.now.conn.now in
+    let mid = c.eights.tx.conn.now in
+    let n = c.eights.done in
+    let picks = c.args.picks.now in
+    let early : HasCleanDisk (state g.S.Store mid) = omega (arith, c.insert_each.ensures.survives.clean) in
+    let reached = reaches_rows g.S.Store _ old mid c.eights.invariant.2 (c.eights.invariant.3 early inside) in
+    then_fails g.S.Store (FailsToInsert insert_pick given_pick (take (length picks - n) (drop n picks))) (FailsToInsertPicks picks) old mid
+    c.insert_each.new.tx.conn.now c.insert_each.result reached (λ a b e h. inl (one_of_rest picks n a b e h)) clean
+    c.insert_each.ensures.fails
+
+pub returns-clause-read : goal.returns-clause-read
+returns-clause-read g c =
+    let n = c.eights.done in
+    let picks = c.args.picks.now in
+    on_ok_weaker c.insert_each.result (λ read. read_both (take n picks) (take (length picks - n) (drop n picks)) picks
+    (rest_more picks n) c.eights.invariant.4 read) c.insert_each.ensures.read

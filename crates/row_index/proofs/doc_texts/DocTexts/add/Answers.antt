@@ -4,7 +4,7 @@ use Rattle.row_index.proofs.doc_texts.DocTexts.add.Goals as goal
 
 pub returns-then-is_err-clause-err : goal.returns-then-is_err-clause-err
 returns-then-is_err-clause-err c = on_err_weaker c.put-done.result (λ f. λ docs n t. next_undone docs
-    c.args.doc.now c.args.place c.args.self.now c.put-done.new.self c.take.new.self f c.take.ensures n t) c.put-done.ensures.err
+    c.args.doc.now c.args.place c.args.self.now c.put-done.new.self c.cut.new.self f c.cut.ensures n t) c.put-done.ensures.err
 
 pub returns-else-is_err-clause-ok : goal.returns-else-is_err-clause-ok
 returns-else-is_err-clause-ok c =

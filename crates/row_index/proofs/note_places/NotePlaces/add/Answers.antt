@@ -11,7 +11,7 @@ pub returns-in-Some-clause-ok : goal.returns-in-Some-clause-ok
 returns-in-Some-clause-ok c =
     on_ok_weaker c.put_place.result (λ e. put_back nat_eq (λ k. k) c.args.key c.args.place c.self.inside.places.entries _ _
     c.in-Some.places.now c.put_place.new.places c.self.view_is (search rules) (c.get_mut.follows.holds c.put_place.new.places).0 e)
-    c.put_place.ensures.ok
+    c.in_ok-put_place.ensures.ok
 
 pub returns-in-Some-clause-err : goal.returns-in-Some-clause-err
 returns-in-Some-clause-err c = on_err_weaker c.put_place.result (λ e. put_as_was nat_eq (λ k. k) c.args.key c.self.inside.places.entries _ _

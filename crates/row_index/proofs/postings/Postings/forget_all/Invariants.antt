@@ -1,7 +1,0 @@
-use Rattle.std.proofs.Common.{◌≡◌, take}
-use Rattle.std.specs.Str.{bytes_eq}
-use Rattle.row_index.specs.Posts.{unposted_all}
-use Rattle.row_index.proofs.postings.Postings.forget_all.Given as goal
-
-abbrev pub invariant-loop-key : goal.invariant-loop-key
-invariant-loop-key l = l.self ≡ unposted_all bytes_eq (take l.key-index l.keys) l.place l.fn.self
