@@ -1,5 +1,4 @@
 //! Tests of words and of copied rows.
-use std::hash::{BuildHasher, DefaultHasher, Hasher};
 use tap_base::{HashKey, Memory, MessageWords, Rows, SharedText, Text, Texts, lower, words_of};
 
 #[test]
@@ -60,18 +59,5 @@ fn a_message_has_the_words_of_its_subject_and_of_its_body(rt: HostRuntime) -> Re
         words.holds(b"bod"),
     ];
     assert_eq!(rt; held, [true, false, false, false]);
-    Ok(())
-}
-
-#[test]
-fn a_run_has_the_hash_of_siphash(rt: HostRuntime) -> Result<(), Memory> {
-    let bytes: &[u8] = b"\xFFThe quick brown fox";
-    for len in 0..bytes.len() {
-        let mut run = HashKey::fixed().build_hasher();
-        run.write(&bytes[..len]);
-        let mut plain = DefaultHasher::new();
-        plain.write(&bytes[..len]);
-        assert_eq!(rt; run.finish(), plain.finish());
-    }
     Ok(())
 }

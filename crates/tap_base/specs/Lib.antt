@@ -7,6 +7,5 @@ pub mod LineWords
 pub mod Laws
 pub mod Ledgers
 pub mod Stores
-pub mod Runs
 pub mod FirstPlaces
 pub mod Prefixes

@@ -1,7 +1,6 @@
 //! The key under which maps hash what comes from mail and from queries.
 
-use crate::run_hasher::RunHasher;
-use std::hash::{BuildHasher, RandomState};
+use std::hash::{BuildHasher, DefaultHasher, RandomState};
 use std::random::RandomSource;
 
 /// The key under which a map hashes its keys, by SipHash-1-3. Whoever doesn't know it can't choose
@@ -9,7 +8,7 @@ use std::random::RandomSource;
 #[derive(Clone, Copy)]
 pub struct HashKey {
     // A hasher that has been given the key and nothing else.
-    start: RunHasher,
+    start: DefaultHasher,
 }
 
 impl HashKey {
@@ -17,7 +16,7 @@ impl HashKey {
     /// chooses to collide.
     pub fn fixed() -> HashKey {
         HashKey {
-            start: RunHasher::keyed(0, 0),
+            start: DefaultHasher::new(),
         }
     }
 
@@ -25,7 +24,7 @@ impl HashKey {
     pub fn draw(rt: &impl RandomSource) -> HashKey {
         match RandomState::new(rt) {
             Ok(state) => HashKey {
-                start: RunHasher::keyed(state.hash_one(0u64), state.hash_one(1u64)),
+                start: state.build_hasher(),
             },
             Err(_) => HashKey::fixed(),
         }
@@ -33,11 +32,11 @@ impl HashKey {
 }
 
 impl BuildHasher for HashKey {
-    type Hasher = RunHasher;
+    type Hasher = DefaultHasher;
 
     ghost build_hasher = { λ key. key.start };
 
-    fn build_hasher(&self) -> RunHasher {
+    fn build_hasher(&self) -> DefaultHasher {
         self.start
     }
 }

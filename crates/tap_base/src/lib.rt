@@ -13,7 +13,6 @@ mod moments;
 mod names;
 mod numbers;
 mod rows;
-mod run_hasher;
 mod shared_text;
 mod short_bytes;
 mod steps;
@@ -37,7 +36,6 @@ pub use moments::{LAST_MOMENT, all_digits, read_moment, read_number, read_signed
 pub use names::is_name;
 pub use numbers::{DocNum, MomentFault, NoteNum, Op, QueryNum};
 pub use rows::Rows;
-pub use run_hasher::RunHasher;
 pub use shared_text::SharedText;
 pub use steps::Steps;
 pub use text::Text;
