@@ -1,11 +1,10 @@
-use Rattle.std.proofs.Common.{◌≡◌, ◌∙◌, ◌+◌, ◌*◌, ◌≤◌, [], ◌∷◌, ◌++◌, map, take, length, ap, arith, slice_index_or, pos, rules}
+use Rattle.std.proofs.Common.{◌≡◌, ◌∙◌, ◌+◌, [], ◌∷◌, ◌++◌, map, take, ap, arith, slice_index_or, pos, rules}
 use Rattle.std.proofs.lemmas.Grind.{common_steps}
 use Rattle.std.proofs.lemmas.List.{map-append, length-map}
-use Rattle.sqlite_value.specs.Order.{Row}
 use Rattle.sqlite.specs.Values.{bound, bound_value}
 use Rattle.sqlite_value.specs.Value.{owned}
 use Rattle.tap_rows.specs.declared.rows.Pick.{Pick}
-use Rattle.keeper_sql.specs.RowsAsValues.{given_pick, pick_in, as_kept}
+use Rattle.keeper_sql.specs.RowsAsValues.{pick_in}
 use Rattle.keeper_sql.proofs.ReadBack.{read_more}
 use Rattle.keeper_sql.proofs.EightPicks.{row_of, given_next, given_all, read_all}
 use Rattle.keeper_sql.proofs.picks.eight_values.Goals as goal
