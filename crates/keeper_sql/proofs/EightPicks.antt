@@ -1,6 +1,6 @@
 -- Picks that are inserted eight at a time.
-use Rattle.std.proofs.Common.{◌≡◌, ◌∙◌, sym, ap, refl, arith, ℕ, zero, suc, List, [], ◌∷◌, ◌++◌, ◌+◌, ◌-◌, ◌*◌, ◌<◌, ◌≤◌, map, take, drop}
-use Rattle.std.proofs.Common.{length, subst, Ok, slice_set}
+use Rattle.std.proofs.Common.{◌≡◌, ◌∙◌, sym, ap, refl, arith, ℕ, zero, suc, List, [], ◌∷◌, ◌++◌, ◌+◌, ◌-◌, ◌*◌, ◌≤◌, map, take, drop}
+use Rattle.std.proofs.Common.{length, subst, Ok, slice_set, append_assoc}
 use Rattle.std.specs.List.{flat_map}
 use Rattle.std.proofs.lemmas.List.{map-append, take-map, drop-map, take_all, take-append-drop, length-append, length-drop, length-take-le}
 use Rattle.std.proofs.lemmas.List.{take_rest, get_or-drop}
@@ -144,6 +144,8 @@ module _ {X : Type 0} where
   five-seen f xs ys at a b c d e row le is seen =
       ap (map f) (is ∙ put-five xs at a b c d e le)
       ∙ map-append f (take at xs) (a ∷ b ∷ c ∷ d ∷ e ∷ drop (at + 5) xs)
+      ∙ ap (λ ys. map f (take at xs) ++ ys) (map-append f (a ∷ b ∷ c ∷ d ∷ e ∷ []) (drop (at + 5) xs))
+      ∙ sym (append_assoc (map f (take at xs)) (map f (a ∷ b ∷ c ∷ d ∷ e ∷ [])) (map f (drop (at + 5) xs)))
       ∙ ap (λ ys. ys ++ map f (a ∷ b ∷ c ∷ d ∷ e ∷ []) ++ map f (drop (at + 5) xs)) (sym (take-map f at xs))
       ∙ ap (λ ys. take at (map f xs) ++ map f (a ∷ b ∷ c ∷ d ∷ e ∷ []) ++ ys) (sym (drop-map f (at + 5) xs))
       ∙ ap (λ ys. take at (map f xs) ++ ys ++ drop (at + 5) (map f xs)) seen

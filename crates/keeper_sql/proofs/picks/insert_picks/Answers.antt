@@ -1,16 +1,15 @@
-use Rattle.std.proofs.Common.{◌≡◌, ◌+◌, ◌-◌, ◌≤◌, List, ◌++◌, map, take, drop, length, arith, ap, sym, ◌∙◌, inl, inr, subst}
-use Rattle.std.specs.List.{flat_map}
+use Rattle.std.proofs.Common.{◌≡◌, ◌+◌, ◌-◌, ◌≤◌, List, ◌++◌, map, take, drop, length, arith, ◌∙◌, inl, inr}
 use Rattle.std.proofs.lemmas.Result.{on_ok_weaker, on_err_weaker}
 use Rattle.sqlite.specs.Held.{state}
 use Rattle.sqlite.specs.State.{HasCleanDisk, Survives}
 use Rattle.sqlite.proofs.StateLemmas.{survives_then}
 use Rattle.tap_rows.specs.declared.rows.Pick.{Pick}
-use Rattle.keeper_sql.specs.RowsAsValues.{given_pick, pick_in, only}
+use Rattle.keeper_sql.specs.RowsAsValues.{given_pick, only}
 use Rattle.keeper_sql.specs.Schema.{insert_pick}
-use Rattle.keeper_sql.specs.Failing.{FailsToInsert, FailsToInsertPicks, FailsToWrite, eight_from}
+use Rattle.keeper_sql.specs.Failing.{FailsToInsert, FailsToInsertPicks}
 use Rattle.keeper_sql.proofs.Steps.{went_then, went_undone, only_both}
 use Rattle.keeper_sql.proofs.FailingLemmas.{reaches_rows, then_fails}
-use Rattle.keeper_sql.proofs.EightPicks.{row_of, eight_range, eight_more, rest_more, rows_both, read_both, one_of_rest}
+use Rattle.keeper_sql.proofs.EightPicks.{row_of, eight_range, rest_more, rows_both, read_both, one_of_rest}
 use Rattle.keeper_sql.proofs.picks.insert_picks.Goals as goal
 
 pub eights-preserved : goal.eights-preserved
