@@ -86,8 +86,7 @@ fn eight_values<'a>(picks: &[Pick]) -> [ValueRef<'a>; 40]
     values
 }
 
-// Inserts the rows of eight delivered documents by one statement, which costs little more than one
-// row's.
+// Inserts the rows of eight delivered documents by one statement, which is read and planned once.
 fn insert_eight<S: Alter>(tx: &mut Transaction<'_, S>, picks: &[Pick]) -> Result<(), Error>
     requires { length picks.now ≡ 8 }
     ensures same_reference { tx.new.conn.ghost_name ≡ tx.old.conn.ghost_name }
