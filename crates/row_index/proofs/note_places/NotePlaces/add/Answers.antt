@@ -10,9 +10,9 @@ begin-requires c = none_there nat_eq (λ k. k)
 pub returns-in_ok-put_place-in-Some-clause-ok : goal.returns-in_ok-put_place-in-Some-clause-ok
 returns-in_ok-put_place-in-Some-clause-ok c = put_back nat_eq (λ k. k) c.args.key c.args.place c.self.inside.places.entries _ _
     c.in-Some.places.now c.put_place.new.places c.self.view_is (search rules) (c.get_mut.follows.holds c.put_place.new.places).0
-    c.in_ok-put_place.ensures.ok
+    c.in_ok-put_place-in-Some.ensures.ok
 
 pub returns-in_err-put_place-in-Some-clause-err : goal.returns-in_err-put_place-in-Some-clause-err
 returns-in_err-put_place-in-Some-clause-err c = at_err _ _ (put_as_was nat_eq (λ k. k) c.args.key c.self.inside.places.entries _ _
     c.in-Some.places.now c.put_place.new.places c.self.view_is (search rules) (c.get_mut.follows.holds c.put_place.new.places).0
-    c.in_err-put_place.ensures.err)
+    c.in_err-put_place-in-Some.ensures.err)

@@ -14,8 +14,8 @@ add-requires c =
     let behind : c.doc_num-place.result - 1 ≡ length c.self.inside.docs.items = grind (arith, number, c.doc_num-place.ensures) in
     word_place_free c.self.inside.docs.items c.self.inside.places c.self.inside.notes.items c.self.inside.on_doc _ c.self.invariant behind
 
-unfolding fields
 pub set_words-requires : goal.set_words-requires
+unfolding fields
 set_words-requires c = c.in_ok-words.ensures.words
 
 pub invariant_of-self-2 : goal.invariant_of-self-2
