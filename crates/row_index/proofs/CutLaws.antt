@@ -1,5 +1,5 @@
 -- Places that are cut off from under all keys.
-use Rattle.std.proofs.Common.{◌≡◌, ℕ, zero, suc, ◌+◌, ◌-◌, ◌<◌, ◌≤◌, Bool, true, false, List, [], ◌∷◌, ◌++◌, Some, None, length, map, take}
+use Rattle.std.proofs.Common.{◌≡◌, ℕ, zero, suc, ◌+◌, ◌-◌, ◌<◌, ◌≤◌, Bool, true, false, List, [], ◌∷◌, ◌++◌, Some, length, map, take}
 use Rattle.std.proofs.Common.{drop, get_or, filter, refl, sym, ap, ◌∙◌, subst, inl, inr, arith, length-append, if◌then◌else◌}
 use Rattle.std.specs.Prelude.{nat_le, slice_get, Vec}
 use Rattle.std.specs.List.{suffix_len}
@@ -12,7 +12,7 @@ use Rattle.indexmap.specs.IndexMap.{set_value_at}
 use Rattle.tap_rows.specs.Kept.{Each}
 use Rattle.row_index.specs.Orders.{Numbered}
 use Rattle.row_index.specs.Places.{with_place, under, cut_places, cut_all, cut_at}
-use Rattle.row_index.specs.Posts.{posted_all, is_one_of, with_key, places_of, Posts}
+use Rattle.row_index.specs.Posts.{posted_all, is_one_of, places_of, Posts}
 use Rattle.row_index.proofs.Entries.{plain}
 use Rattle.row_index.proofs.PostLaws.{put_new, under_posted_all, below_each, fresh_place}
 

@@ -1,6 +1,6 @@
 -- A place that is put under words as often as they come.
 use Rattle.std.proofs.Common.{◌≡◌, ◌∙◌, refl, sym, ap, subst, ℕ, zero, suc, Bool, true, false, List, [], ◌∷◌, ◌++◌, length, take, drop}
-use Rattle.std.proofs.Common.{inl, inr, if◌then◌else◌, arith, nat_eq}
+use Rattle.std.proofs.Common.{inl, inr, if◌then◌else◌, arith}
 use Rattle.std.proofs.Math.Seq.{take-append_seam}
 use Rattle.std.proofs.lemmas.Bool.{cases_Bool, true≢false}
 use Rattle.std.proofs.lemmas.List.{take-append-drop, append-nil, append_assoc}
