@@ -99,10 +99,6 @@ pub put_distinct : (xs keys : List (List ℕ)) (p : ℕ) (es fs : List (List ℕ
     → fs ≡ posted_all bytes_eq xs p es → fs ≡ posted_all bytes_eq keys p es
 put_distinct xs keys p es fs is done = done ∙ sym (put_new_ones [] xs p es) ∙ ap (λ ks. posted_all bytes_eq ks p es) is
 
-append-one : (front rest : List (List ℕ)) (key : List ℕ) → front ++ key ∷ rest ≡ (front ++ key ∷ []) ++ rest
-append-one [] rest key = refl
-append-one (k ∷ front) rest key = ap (λ ks. k ∷ ks) (append-one front rest key)
-
 -- the place was put under the first of the words, and these are left; the words that were noted are the first ones
 pub record IsAdding (words left before noted : List (List ℕ)) (place : ℕ) (es fs : List (List ℕ × List ℕ)) : Type 0 where
   pub front : List (List ℕ)
@@ -128,7 +124,7 @@ next_front : (words left left' before noted : List (List ℕ)) (word : List ℕ)
     → (IsFreePlace place es → HoldSameTexts noted' (before ++ (a.front ++ word ∷ []))) → IsAdding words left' before noted' place es gs
 next_front words left left' before noted word place es fs gs noted' is next a same = record {
   front = a.front ++ word ∷ [];
-  whole = a.whole ∙ ap (λ ks. a.front ++ ks) is ∙ append-one a.front left' word;
+  whole = a.whole ∙ ap (λ ks. a.front ++ ks) is ∙ sym (append_assoc a.front (word ∷ []) left');
   done = next ∙ ap (λ z. posted bytes_eq word place z) a.done ∙ sym (posted_onto bytes_eq a.front word place es);
   same = same;
 }
@@ -229,7 +225,7 @@ pub adding_failed : (words left left' before noted : List (List ℕ)) (word : Li
     → IsPartlyPosted words place es gs
 adding_failed words left left' before noted word place es fs gs is (n, done) a = go n done where
   whole : words ≡ (a.front ++ word ∷ []) ++ left'
-  whole = a.whole ∙ ap (λ ks. a.front ++ ks) is ∙ append-one a.front left' word
+  whole = a.whole ∙ ap (λ ks. a.front ++ ks) is ∙ sym (append_assoc a.front (word ∷ []) left')
 
   onto : gs ≡ posted bytes_eq word place fs → gs ≡ posted_all bytes_eq (take (length (a.front ++ word ∷ [])) words) place es
   onto done = done ∙ ap (λ z. posted bytes_eq word place z) a.done ∙ sym (posted_onto bytes_eq a.front word place es)
