@@ -1,5 +1,5 @@
 -- Places that are cut off from under all keys.
-use Rattle.std.proofs.Common.{◌≡◌, ℕ, zero, suc, ◌+◌, ◌-◌, ◌<◌, ◌≤◌, Bool, true, false, List, [], ◌∷◌, ◌++◌, Some, None, length, map, take}
+use Rattle.std.proofs.Common.{◌≡◌, ℕ, zero, suc, ◌+◌, ◌-◌, ◌<◌, ◌≤◌, Bool, true, false, List, [], ◌∷◌, ◌++◌, Some, length, map, take}
 use Rattle.std.proofs.Common.{drop, get_or, filter, refl, sym, ap, ◌∙◌, subst, inl, inr, arith, length-append, if◌then◌else◌}
 use Rattle.std.specs.Prelude.{nat_le, slice_get, Vec}
 use Rattle.std.specs.List.{suffix_len}
@@ -10,11 +10,12 @@ use Rattle.std.proofs.lemmas.List.Elements.{filter-append}
 use Rattle.std.proofs.lemmas.List.Sums.{suffix_len_is}
 use Rattle.indexmap.specs.IndexMap.{set_value_at}
 use Rattle.tap_rows.specs.Kept.{Each}
+use Rattle.tap_rows.proofs.LaterLaws.{each-map}
 use Rattle.row_index.specs.Orders.{Numbered}
 use Rattle.row_index.specs.Places.{with_place, under, cut_places, cut_all, cut_at}
-use Rattle.row_index.specs.Posts.{posted_all, is_one_of, with_key, places_of, Posts}
+use Rattle.row_index.specs.Posts.{posted_all, is_one_of, places_of, Posts}
 use Rattle.row_index.proofs.Entries.{plain}
-use Rattle.row_index.proofs.PostLaws.{put_new, under_posted_all, below_each, fresh_place}
+use Rattle.row_index.proofs.PostLaws.{put_new, under_posted_all, below_each, fresh_place, places_onto}
 
 -- one list
 
@@ -115,14 +116,6 @@ module _ {K A : Type 0} (eq : K → K → Bool) (sound : (x y : K) → eq x y �
       let same : n + 1 + m ≡ n + suc m = omega arith in
       subst (λ k. Each (λ j. k ≤ j + 1) (places_of number (filter t (drop m rows)))) same (back_places t m (n + 1) rows h.1 (omega arith))
 
-  each_weaker : (P Q : ℕ → Type 0) → ((k : ℕ) → P k → Q k) → (ks : List ℕ) → Each P ks → Each Q ks
-  each_weaker P Q f [] e = tt
-  each_weaker P Q f (k ∷ ks) e = (f k e.0, each_weaker P Q f ks e.1)
-
-  places_onto : (xs ys : List A) → places_of number (xs ++ ys) ≡ places_of number xs ++ places_of number ys
-  places_onto [] ys = refl
-  places_onto (x ∷ xs) ys = ap (λ z. (number x - 1) ∷ z) (places_onto xs ys)
-
   -- cut off, the places of rows are those of the first ones
   cut_rows : (t : A → Bool) (len : ℕ) (rows : List A) → Numbered number 1 rows
       → cut_places len (places_of number (filter t rows)) ≡ places_of number (filter t (take len rows))
@@ -131,11 +124,11 @@ module _ {K A : Type 0} (eq : K → K → Bool) (sound : (x y : K) → eq x y �
       ≡ places_of number (filter t (take len rows)) ++ places_of number (filter t (drop len rows)) =
       ap (λ xs. places_of number (filter t xs)) (sym (take-append-drop len rows))
       ∙ ap (places_of number) (filter-append t (take len rows) (drop len rows))
-      ∙ places_onto (filter t (take len rows)) (filter t (drop len rows)) in
-      let front : Each (λ k. k < len) (places_of number (filter t (take len rows))) = each_weaker (λ k. k + 1 < 1 + len) (λ k. k < len)
-      (λ k lt. omega (arith, lt)) (places_of number (filter t (take len rows))) (front_places t len 1 rows h (omega arith)) in
-      let back : Each (λ k. len ≤ k) (places_of number (filter t (drop len rows))) = each_weaker (λ k. 1 + len ≤ k + 1) (λ k. len ≤ k)
-      (λ k le. omega (arith, le)) (places_of number (filter t (drop len rows))) (back_places t len 1 rows h (omega arith)) in
+      ∙ places_onto eq sound keys number (filter t (take len rows)) (filter t (drop len rows)) in
+      let front : Each (λ k. k < len) (places_of number (filter t (take len rows))) = each-map (λ k. k + 1 < 1 + len) (λ k. k < len)
+      (places_of number (filter t (take len rows))) (λ k lt. omega (arith, lt)) (front_places t len 1 rows h (omega arith)) in
+      let back : Each (λ k. len ≤ k) (places_of number (filter t (drop len rows))) = each-map (λ k. 1 + len ≤ k + 1) (λ k. len ≤ k)
+      (places_of number (filter t (drop len rows))) (λ k le. omega (arith, le)) (back_places t len 1 rows h (omega arith)) in
       ap (cut_places len) parts
       ∙ cut_behind len (places_of number (filter t (take len rows))) (places_of number (filter t (drop len rows))) front back
 

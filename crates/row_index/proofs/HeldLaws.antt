@@ -1,4 +1,4 @@
--- An index with one row more, or the last one less.
+-- An index with one row more, without its last note, or with its first documents alone.
 use Rattle.std.proofs.Common.{◌≡◌, ℕ, ◌+◌, ◌-◌, ◌<◌, ◌^◌, ◌≤ℤ◌, true, List, [], ◌∷◌, ◌++◌, length, sym, ap, ◌∙◌, subst, arith, nat_eq}
 use Rattle.std.proofs.Common.{take, ◌≤◌}
 use Rattle.std.proofs.lemmas.List.{take-take, take_all}

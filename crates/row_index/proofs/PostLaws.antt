@@ -45,9 +45,6 @@ put_twice p xs =
       | inr e ↦ rw (e, ends_put p xs) refl
     ]
 
-pub taken_put : (p : ℕ) (xs : List ℕ) → ends_with p xs ≡ false → without_place p (with_place p xs) ≡ xs
-taken_put p xs e = ap (λ z. without_place p z) (put_new p xs e) ∙ put_taken p xs
-
 -- one key
 
 module _ {K : Type 0} (eq : K → K → Bool) (sound : (x y : K) → eq x y ≡ true → x ≡ y) where
@@ -244,7 +241,7 @@ module _ {K A : Type 0} (eq : K → K → Bool) (sound : (x y : K) → eq x y �
         | inr b ↦ rw b (filter_onto t rows row)
       ]
 
-  places_onto : (xs ys : List A) → places_of number (xs ++ ys) ≡ places_of number xs ++ places_of number ys
+  pub places_onto : (xs ys : List A) → places_of number (xs ++ ys) ≡ places_of number xs ++ places_of number ys
   places_onto [] ys = refl
   places_onto (x ∷ xs) ys = ap (λ z. (number x - 1) ∷ z) (places_onto xs ys)
 

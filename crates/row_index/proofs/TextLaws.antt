@@ -1,6 +1,6 @@
 -- Documents that are put under their texts, and taken away again.
 use Rattle.std.proofs.Common.{◌≡◌, ℕ, ◌+◌, true, List, [], ◌∷◌, ◌++◌, length, take, refl, sym, ap, ◌∙◌, subst, arith, Result, Ok, Err}
-use Rattle.std.proofs.Common.{OnOk, OnErr}
+use Rattle.std.proofs.Common.{OnErr}
 use Rattle.std.specs.Str.{bytes_eq}
 use Rattle.std.specs.Cmp.{nat_eq_equiv}
 use Rattle.std.specs.Cmp.Lexicographic.{lists_equiv}
@@ -21,10 +21,6 @@ use Rattle.row_index.proofs.CutLaws.{posts_cut, posts_undone}
 pub at_err : {T E : Type 0} (r : Result T E) (P : Type 0) → P → OnErr r P
 at_err (Ok x) P p = tt
 at_err (Err e) P p = p
-
-pub at_ok : {T E : Type 0} (r : Result T E) (P : Type 0) → P → OnOk r P
-at_ok (Ok x) P p = p
-at_ok (Err e) P p = tt
 
 pub not_yet : (keys : List (List ℕ)) (p : ℕ) (es : List (List ℕ × List ℕ)) → IsPartlyPosted keys p es es
 not_yet keys p es = (0, refl)

@@ -1,6 +1,6 @@
 -- A place that is put under words as often as they come.
 use Rattle.std.proofs.Common.{◌≡◌, ◌∙◌, refl, sym, ap, subst, ℕ, zero, suc, Bool, true, false, List, [], ◌∷◌, ◌++◌, length, take, drop}
-use Rattle.std.proofs.Common.{inl, inr, if◌then◌else◌, arith, nat_eq}
+use Rattle.std.proofs.Common.{inl, inr, if◌then◌else◌, arith}
 use Rattle.std.proofs.Math.Seq.{take-append_seam}
 use Rattle.std.proofs.lemmas.Bool.{cases_Bool, true≢false}
 use Rattle.std.proofs.lemmas.List.{take-append-drop, append-nil, append_assoc}
@@ -99,16 +99,12 @@ pub put_distinct : (xs keys : List (List ℕ)) (p : ℕ) (es fs : List (List ℕ
     → fs ≡ posted_all bytes_eq xs p es → fs ≡ posted_all bytes_eq keys p es
 put_distinct xs keys p es fs is done = done ∙ sym (put_new_ones [] xs p es) ∙ ap (λ ks. posted_all bytes_eq ks p es) is
 
-append-one : (front rest : List (List ℕ)) (key : List ℕ) → front ++ key ∷ rest ≡ (front ++ key ∷ []) ++ rest
-append-one [] rest key = refl
-append-one (k ∷ front) rest key = ap (λ ks. k ∷ ks) (append-one front rest key)
-
 -- the place was put under the first of the words, and these are left; the words that were noted are the first ones
 pub record IsAdding (words left before noted : List (List ℕ)) (place : ℕ) (es fs : List (List ℕ × List ℕ)) : Type 0 where
   pub front : List (List ℕ)
   pub whole : words ≡ front ++ left
   pub done : fs ≡ posted_all bytes_eq front place es
-  pub noted : IsFreePlace place es → HoldSameTexts noted (before ++ front)
+  pub same : IsFreePlace place es → HoldSameTexts noted (before ++ front)
 
 same_front : (xs ys zs : List (List ℕ)) (t : List ℕ) → has_text (xs ++ (ys ++ zs)) t ≡ (has_text xs t || (has_text ys t || has_text zs t))
 same_front xs ys zs t = list_any-append (λ other. bytes_eq t other) xs (ys ++ zs)
@@ -119,7 +115,7 @@ adding_none words before place es = record {
   front = [];
   whole = refl;
   done = refl;
-  noted = λ free t. ap (λ ws. has_text ws t) (sym (append-nil before));
+  same = λ free t. ap (λ ws. has_text ws t) (sym (append-nil before));
 }
 
 next_front : (words left left' before noted : List (List ℕ)) (word : List ℕ) (place : ℕ) (es fs gs : List (List ℕ × List ℕ))
@@ -128,9 +124,9 @@ next_front : (words left left' before noted : List (List ℕ)) (word : List ℕ)
     → (IsFreePlace place es → HoldSameTexts noted' (before ++ (a.front ++ word ∷ []))) → IsAdding words left' before noted' place es gs
 next_front words left left' before noted word place es fs gs noted' is next a same = record {
   front = a.front ++ word ∷ [];
-  whole = a.whole ∙ ap (λ ks. a.front ++ ks) is ∙ append-one a.front left' word;
+  whole = a.whole ∙ ap (λ ks. a.front ++ ks) is ∙ sym (append_assoc a.front (word ∷ []) left');
   done = next ∙ ap (λ z. posted bytes_eq word place z) a.done ∙ sym (posted_onto bytes_eq a.front word place es);
-  noted = same;
+  same = same;
 }
 
 -- a word that the message hadn't had before, and was noted
@@ -140,7 +136,7 @@ adding_new : (words left left' before noted noted' : List (List ℕ)) (word : Li
 adding_new words left left' before noted noted' word place es fs gs is next more a =
     next_front words left left' before noted word place es fs gs noted' is next a (λ free t.
     ap (λ ws. has_text ws t) more ∙ list_any-append (λ other. bytes_eq t other) noted (word ∷ [])
-    ∙ ap (λ b. b || has_text (word ∷ []) t) (a.noted free t)
+    ∙ ap (λ b. b || has_text (word ∷ []) t) (a.same free t)
     ∙ sym (ap (λ ws. has_text ws t) (sym (append_assoc before a.front (word ∷ [])))
     ∙ list_any-append (λ other. bytes_eq t other) (before ++ a.front) (word ∷ [])))
 
@@ -162,7 +158,7 @@ adding_old : (words left left' before noted : List (List ℕ)) (word : List ℕ)
     → IsAdding words left before noted place es fs → IsAdding words left' before noted place es gs
 adding_old words left left' before noted word place es fs gs is next last a =
     next_front words left left' before noted word place es fs gs noted is next a (λ free t.
-    a.noted free t ∙ list_any-append (λ other. bytes_eq t other) before a.front
+    a.same free t ∙ list_any-append (λ other. bytes_eq t other) before a.front
     ∙ ap (λ b. has_text before t || b)
     (sym (absorbed a.front word t false (had_before a.front word place es fs free a.done last) ∙ or_false (has_text a.front t)))
     ∙ sym (same_front before a.front (word ∷ []) t))
@@ -196,9 +192,9 @@ not-false false e = absurd (true≢false e)
 pub noted_new : (place : ℕ) (word key : List ℕ) (es : List (List ℕ × List ℕ)) (noted noted' : List (List ℕ)) (new : Bool) → key ≡ word
     → new ≡ not (ends_with place (under bytes_eq key es)) → new ≡ true → noted' ≡ noted ++ word ∷ []
     → noted' ≡ noted_then place word es noted
-noted_new place word key es noted noted' new same is yes more =
+noted_new place word key es noted noted' new same is put more =
     let last : ends_with place (under bytes_eq word es) ≡ false = ap (λ k. ends_with place (under bytes_eq k es)) (sym same)
-    ∙ not-true (ends_with place (under bytes_eq key es)) (sym is ∙ yes) in
+    ∙ not-true (ends_with place (under bytes_eq key es)) (sym is ∙ put) in
     more ∙ sym (ap (λ b. if b then noted else noted ++ word ∷ []) last)
 
 pub noted_old : (place : ℕ) (word key : List ℕ) (es : List (List ℕ × List ℕ)) (noted noted' : List (List ℕ)) (new : Bool) → key ≡ word
@@ -213,7 +209,7 @@ pub adding_all : (words left before noted : List (List ℕ)) (place : ℕ) (es f
     → (fs ≡ posted_all bytes_eq words place es) × (IsFreePlace place es → HoldSameTexts noted (before ++ words))
 adding_all words left before noted place es fs none a =
     let whole : a.front ≡ words = sym (a.whole ∙ ap (λ ks. a.front ++ ks) none ∙ append-nil a.front) in
-    (a.done ∙ ap (λ ks. posted_all bytes_eq ks place es) whole, λ free t. a.noted free t ∙ ap (λ ks. has_text (before ++ ks) t) whole)
+    (a.done ∙ ap (λ ks. posted_all bytes_eq ks place es) whole, λ free t. a.same free t ∙ ap (λ ks. has_text (before ++ ks) t) whole)
 
 pub adding_partly : (words left before noted : List (List ℕ)) (place : ℕ) (es fs gs : List (List ℕ × List ℕ)) → gs ≡ fs
     → IsAdding words left before noted place es fs → IsPartlyPosted words place es gs
@@ -229,7 +225,7 @@ pub adding_failed : (words left left' before noted : List (List ℕ)) (word : Li
     → IsPartlyPosted words place es gs
 adding_failed words left left' before noted word place es fs gs is (n, done) a = go n done where
   whole : words ≡ (a.front ++ word ∷ []) ++ left'
-  whole = a.whole ∙ ap (λ ks. a.front ++ ks) is ∙ append-one a.front left' word
+  whole = a.whole ∙ ap (λ ks. a.front ++ ks) is ∙ sym (append_assoc a.front (word ∷ []) left')
 
   onto : gs ≡ posted bytes_eq word place fs → gs ≡ posted_all bytes_eq (take (length (a.front ++ word ∷ [])) words) place es
   onto done = done ∙ ap (λ z. posted bytes_eq word place z) a.done ∙ sym (posted_onto bytes_eq a.front word place es)

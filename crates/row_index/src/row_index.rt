@@ -4,7 +4,6 @@ ghost use Rattle.std.specs.Prelude.{◌≡◌, ◌+◌, ◌<◌, ℤ, pos, ◌�
 ghost use Rattle.std.specs.Prelude.{◌∷◌, length, nat_eq, option_copied, option_to_list, slice_get};
 ghost use Rattle.std.specs.Prelude.{take, OnOk, OnErr};
 ghost use Rattle.std.specs.List.{find};
-ghost use Rattle.tap_rows.specs.declared.rows.Doc.{Doc};
 ghost use Rattle.tap_rows.specs.declared.rows.Note.{Note};
 ghost use Rattle.tap_rows.specs.declared.tables.Tables.{Tables};
 ghost use Rattle.tap_rows.specs.declared.change.Change.TheVariants.{Docs, OneNote};

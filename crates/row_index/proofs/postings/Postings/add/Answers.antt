@@ -26,3 +26,7 @@ returns-in-Some-clause-new c =
     IfOk-weaker c.put_place.result _ _ (λ new e. e ∙ ap (λ xs. not (ends_with c.args.place xs))
     (under_some bytes_eq (λ k. k) c.args.key.now c.self.inside.places.entries _ c.in-Some.places.now _ c.self.view_is (search rules) refl))
     c.put_place.ensures.new
+
+pub returns-in_ok-begin-in-None-clause-new : goal.returns-in_ok-begin-in-None-clause-new
+returns-in_ok-begin-in-None-clause-new c = ap (λ xs. not (ends_with c.args.place xs))
+    (under_nothing bytes_eq (λ k. k) c.args.key.now c.self.inside.places.entries _ c.self.view_is (search rules))

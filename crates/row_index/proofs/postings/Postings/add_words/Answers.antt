@@ -1,4 +1,4 @@
-use Rattle.std.proofs.Common.{◌≡◌, ◌∙◌, ◌∷◌, ap, sym, refl, arith}
+use Rattle.std.proofs.Common.{◌≡◌, ◌∙◌, ◌∷◌, ap, sym, refl}
 use Rattle.tap_base.specs.Words.{has_text}
 use Rattle.row_index.specs.Posts.{noted_then, IsPartlyPosted}
 use Rattle.row_index.proofs.TextLaws.{at_err}

@@ -1,4 +1,4 @@
-use Rattle.std.proofs.Common.{◌≡◌, length}
+use Rattle.std.proofs.Common.{◌≡◌}
 use Rattle.row_index.proofs.CutLaws.{cut_front}
 use Rattle.row_index.proofs.postings.Postings.cut.Given as goal
 

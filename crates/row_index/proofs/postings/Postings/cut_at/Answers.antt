@@ -9,7 +9,7 @@ returns c =
     elim c.match-get_index_mut.branch [
       | in-Some w ↦ put_cut bytes_eq (λ k. k) c.args.len c.args.at c.self.inside.places.entries _ _
           w.in-Some.places.now w.cut_places.new.places c.self.view_is (search rules)
-          (ap (λ z. z.places.entries) w.self-inside-is ∙ (c.get_index_mut.follows.holds w.cut_places.new.places).0) w.cut_places.ensures
+          (ap (λ z. z.places.entries) w.self-inside-is) w.cut_places.ensures
       | in_default w ↦ put_none bytes_eq (λ k. k) c.args.len c.args.at c.self.inside.places.entries _ _ c.self.view_is (search rules)
           (ap (λ z. z.places.entries) w.self-inside-is ∙ search rules)
     ]

@@ -1,6 +1,7 @@
 use Rattle.std.proofs.Common.{rules, arith, ◌≡◌, ◌+◌, ◌<◌, ◌-◌, ◌^◌, ◌++◌, ◌∷◌, [], ◌≤ℤ◌, length, List, sym, subst}
 use Rattle.tap_rows.specs.declared.rows.Doc.{Doc}
 use Rattle.tap_rows.specs.declared.tables.Tables.{Tables}
+use Rattle.tap_rows.specs.Fields.{fields}
 use Rattle.tap_rows.specs.Kept.{Each}
 use Rattle.row_index.specs.Texts.{IsNext}
 use Rattle.row_index.specs.Held.{DocPosts}
@@ -12,6 +13,10 @@ add-requires c =
     let number : c.args.doc.num.0 ≡ length c.self.inside.docs.items + 1 = search rules in
     let behind : c.doc_num-place.result - 1 ≡ length c.self.inside.docs.items = grind (arith, number, c.doc_num-place.ensures) in
     word_place_free c.self.inside.docs.items c.self.inside.places c.self.inside.notes.items c.self.inside.on_doc _ c.self.invariant behind
+
+pub set_words-requires : goal.set_words-requires
+unfolding fields
+set_words-requires c = c.in_ok-words.ensures.words
 
 pub invariant_of-self-2 : goal.invariant_of-self-2
 invariant_of-self-2 c =
