@@ -1,5 +1,5 @@
 -- The fields of a message, one by one.
-use Rattle.std.proofs.Common.{◌≡◌, ℕ, List, []}
+use Rattle.std.proofs.Common.{◌≡◌, refl, arith, ℕ, List, [], ◌∷◌, length, ◌<◌}
 use Rattle.std.specs.Prelude.{codes, Option, ℤ}
 use Rattle.std.specs.List.{flat_map}
 use Rattle.std.specs.Option.{option_and_then}
@@ -44,3 +44,9 @@ fields-same header body n d f s m i t c g r w ed ef es em ei et ec eg er ew j = 
   words = ew j;
   size = n;
 }
+
+-- fewer than two texts are different
+pub few-differ : (texts : List (List ℕ)) → length texts < 2 → texts ≡ with_new [] texts
+few-differ [] few = refl
+few-differ (text ∷ []) few = refl
+few-differ (text ∷ other ∷ texts) few = absurd (omega (arith, few))

@@ -43,7 +43,7 @@ impl<'a> FieldValue<'a> {
 
 impl<'a> FieldRef<'a> {
     pub(crate) fn new(name: &'a [u8], value: FieldValue<'a>) -> FieldRef<'a>
-        ensures { result ≡ record { name = name.now; unfolded = value_bytes value } }
+        ensures { result ≡ record { name = name.now; unfolded = value_bytes value.entry } }
     {
         FieldRef { name, value }
     }

@@ -1,7 +1,5 @@
-use Rattle.std.proofs.Common.{◌∙◌, ap, sym, ◌++◌}
-use Rattle.std.specs.List.{concat, take_while}
+use Rattle.std.proofs.Common.{◌∙◌, sym}
 use Rattle.std.specs.Str.Lines.{lines}
-use Rattle.tap_rows.specs.Headers.{continues_field}
 use Rattle.tap_base.proofs.EndLaws.{whole-end}
 use Rattle.mail_fields.proofs.HeaderLaws.{value-stays, lines-stay}
 use Rattle.mail_fields.proofs.unfold.take_value.Goals as goal
