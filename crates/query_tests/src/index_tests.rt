@@ -86,7 +86,7 @@ fn left(index: &mut RowIndex) -> u32 {
     index.docs()
 }
 
-// Returns those counts, and how many documents are left without the last.
+// Returns those counts, and how many documents are left after that.
 fn counted<L: Ledger>(alloc: Global, blank: Blank) -> Result<([usize; 5], u32), Memory>
     requires blank { IsBlankOf L.name L.parts blank }
 {
