@@ -1,10 +1,10 @@
-/* The work of three kinds of query in plain C, to compare with: bench/shapes.sh and bench/costs.sh measure it beside the program.
+/* The work of three kinds of query in plain C, to compare with: bench/shapes.sh, costs.sh and loads.sh measure it beside the program.
  *
- * It reads `at`, `mail` and `run` as the program does, and writes the same replies; it passes over notes. It stores each mail's
- * text, and indexes its words, sender and In-Reply-To. Each reply is put before the next command is read, as the program does; with
- * TOGETHER in the environment replies wait until 64 KiB are full. A query is `query q word W`, `query q sender A` or
- * `query q silence SECONDS` (no reply for so long). Any other line gets `no 1`. It checks no form and no limit. Built with
- * -DSQLITE it takes the path of a store, whose documents it reads first. */
+ * It reads `at`, `mail`, `mbox` and `run` as the program does, and writes the same replies; it passes over notes. It stores each
+ * mail's text, and indexes its words, sender and In-Reply-To. Each reply is put before the next command is read, as the program
+ * does; with TOGETHER in the environment replies wait until 64 KiB are full. A query is `query NAME word W`, `query NAME sender A`
+ * or `query NAME silence SECONDS` (no reply for so long). Any other line gets `no 1`. It checks no form and no limit. Built with
+ * -DSQLITE it takes the path of a store, whose documents it reads first; it stores what comes, a transaction a command. */
 #include <stdint.h>
 #include <stdio.h>
 #include <stdlib.h>
@@ -122,67 +122,187 @@ static void add_mail(int64_t arrival, const char *lines, size_t size) {
   }
 }
 
-static void read_mail(void) {
-  static char *line, *text;
-  static size_t room, text_room;
-  size_t size = 0;
-  ssize_t len;
-  while ((len = getline(&line, &room, stdin)) > 0) {
-    char *from = line;
-    if (*from == '.') {
-      if (len == 2) break;
-      from++, len--;
-    }
-    while (text_room < size + len) text = grow(text, &text_room, 1);
-    memcpy(text + size, from, len);
-    size += len;
-  }
-  add_mail(now, text, size);
-  printf("ok 0 doc %zu\n", doc_count);
+/* The rows that a command adds are one transaction. Without a store these do nothing. */
+#ifdef SQLITE
+enum { DOC, QUERY, RUN, PICK };
+static sqlite3 *store;
+static sqlite3_stmt *inserts[4];
+
+static void sql(const char *text) {
+  if (store && sqlite3_exec(store, text, NULL, NULL, NULL)) exit(5);
 }
 
-#ifdef SQLITE
-static void read_store(const char *path) {
-  sqlite3 *store;
+static void put_row(int table, int count, const int64_t *numbers, const char *text, size_t len) {
+  if (!store) return;
+  for (int i = 0; i < count; i++) sqlite3_bind_int64(inserts[table], i + 1, numbers[i]);
+  if (text) sqlite3_bind_blob(inserts[table], count + 1, text, len, SQLITE_STATIC);
+  if (sqlite3_step(inserts[table]) != SQLITE_DONE) exit(5);
+  sqlite3_reset(inserts[table]);
+}
+
+static void open_store(const char *path) {
+  static const char *const texts[] = {"INSERT INTO docs VALUES (?1, ?2, ?3)", "INSERT INTO queries VALUES (?1, X'', X'', ?3, ?2)",
+                                      "INSERT INTO runs VALUES (?1, ?2, ?3)", "INSERT INTO picks VALUES (?1, ?2, ?3, ?4, ?5)"};
   sqlite3_stmt *rows;
-  if (sqlite3_open(path, &store) || sqlite3_prepare_v2(store, "SELECT arrival, body FROM docs ORDER BY num", -1, &rows, NULL)) exit(5);
+  if (sqlite3_open(path, &store)) exit(5);
+  sql("PRAGMA journal_mode = WAL; PRAGMA synchronous = FULL;"
+      "CREATE TABLE IF NOT EXISTS docs (num INTEGER PRIMARY KEY, arrival INTEGER NOT NULL, body BLOB NOT NULL) STRICT;"
+      "CREATE TABLE IF NOT EXISTS queries (num INTEGER PRIMARY KEY, owner BLOB NOT NULL, name BLOB NOT NULL, source BLOB NOT NULL,"
+      " arrival INTEGER NOT NULL) STRICT;"
+      "CREATE TABLE IF NOT EXISTS runs (num INTEGER PRIMARY KEY, query INTEGER NOT NULL, moment INTEGER NOT NULL) STRICT;"
+      "CREATE TABLE IF NOT EXISTS picks (num INTEGER PRIMARY KEY, query INTEGER NOT NULL, run INTEGER NOT NULL, doc INTEGER NOT NULL,"
+      " second INTEGER NOT NULL) STRICT;");
+  for (int i = 0; i < 4; i++)
+    if (sqlite3_prepare_v2(store, texts[i], -1, &inserts[i], NULL)) exit(5);
+  if (sqlite3_prepare_v2(store, "SELECT arrival, body FROM docs ORDER BY num", -1, &rows, NULL)) exit(5);
   while (sqlite3_step(rows) == SQLITE_ROW) {
     const char *body = sqlite3_column_blob(rows, 1);
     add_mail(sqlite3_column_int64(rows, 0), body ? body : "", sqlite3_column_bytes(rows, 1));
   }
   sqlite3_finalize(rows);
-  sqlite3_close(store);
 }
+
+static void close_store(void) {
+  for (int i = 0; i < 4; i++) sqlite3_finalize(inserts[i]);
+  if (store && sqlite3_close(store)) exit(5);
+}
+#define PUT_ROW(table, text, len, ...) \
+  put_row(table, sizeof((int64_t[]){__VA_ARGS__}) / sizeof(int64_t), (int64_t[]){__VA_ARGS__}, text, len)
+#else
+static void sql(const char *text) { (void)text; }
+#define PUT_ROW(table, text, len, ...) (void)(len)
 #endif
 
-/* The standing query: the documents of one list, or those that nobody replied to for `span` seconds. */
-static Table *table;
-static char key[256];
-static int64_t span;
-static size_t done, runs;
-static struct { uint32_t doc; int64_t first; } *box;
-static size_t box_len, box_room;
-
-static void deliver(uint32_t doc, int64_t first) {
-  if (box_len == box_room) box = grow(box, &box_room, sizeof *box);
-  box[box_len].doc = doc;
-  box[box_len++].first = first;
+static void new_mail(const char *text, size_t size) {
+  add_mail(now, text, size);
+  PUT_ROW(DOC, docs[doc_count - 1].text, size, (int64_t)doc_count, now);
 }
 
-static void run(void) {
-  size_t from = box_len;
-  List *list = table ? find(table, key, strlen(key)) : NULL;
+static char *text;
+static size_t text_room, text_len;
+
+static void append(const char *line, size_t len) {
+  while (text_room < text_len + len) text = grow(text, &text_room, 1);
+  memcpy(text + text_len, line, len);
+  text_len += len;
+}
+
+static char *line_of_block;
+static size_t block_room;
+
+/* Returns the length of the next line of a block, which begins at *from; nothing at its end. */
+static ssize_t next_line(char **from) {
+  ssize_t len = getline(&line_of_block, &block_room, stdin);
+  *from = line_of_block;
+  if (len <= 0 || *line_of_block != '.') return len > 0 ? len : 0;
+  if (len == 2) return 0;
+  ++*from;
+  return len - 1;
+}
+
+static void read_mail(void) {
+  char *from;
+  ssize_t len;
+  text_len = 0;
+  while ((len = next_line(&from))) append(from, len);
+  sql("BEGIN");
+  new_mail(text, text_len);
+  sql("COMMIT");
+  printf("ok 0 doc %zu\n", doc_count);
+}
+
+static void end_message(int is_open) {
+  if (is_open && text_len && text[text_len - 1] == '\n' && (text_len == 1 || text[text_len - 2] == '\n')) text_len--;
+  if (is_open) new_mail(text, text_len);
+  text_len = 0;
+}
+
+static void read_mbox(void) {
+  char *from;
+  ssize_t len;
+  int is_open = 0, after_empty = 1;
+  size_t before = doc_count;
+  text_len = 0;
+  sql("BEGIN");
+  while ((len = next_line(&from))) {
+    if (after_empty && is(from, "From ")) {
+      end_message(is_open);
+      is_open = 1;
+    } else if (is_open) {
+      char *quoted = from;
+      while (*quoted == '>') quoted++;
+      int is_quoted = quoted > from && is(quoted, "From ");
+      append(from + is_quoted, len - is_quoted);
+    }
+    after_empty = len == 1;
+  }
+  end_message(is_open);
+  sql("COMMIT");
+  printf("ok 0 docs %zu %zu\n", doc_count - before, before + 1);
+}
+
+/* A standing query: the documents of one list, or those that nobody replied to for `span` seconds. */
+static struct Query {
+  char name[32], key[256];
+  Table *table;
+  int64_t span;
+  size_t done;
+  struct { uint32_t doc; int64_t first; } *box;
+  size_t box_len, box_room;
+} *queries;
+static size_t query_count, query_room, runs, picks;
+
+static void deliver(struct Query *query, uint32_t doc, int64_t first) {
+  if (query->box_len == query->box_room) query->box = grow(query->box, &query->box_room, sizeof *query->box);
+  query->box[query->box_len].doc = doc;
+  query->box[query->box_len++].first = first;
+}
+
+static void define(char *name) {
+  if (query_count == query_room) queries = grow(queries, &query_room, sizeof *queries);
+  struct Query *query = memset(&queries[query_count++], 0, sizeof *queries);
+  char *kind = strchr(name, ' ') + 1, *rest = strchr(kind, ' ') + 1;
+  snprintf(query->name, sizeof query->name, "%.*s", (int)(kind - 1 - name), name);
+  query->table = is(kind, "word") ? &words : is(kind, "sender") ? &senders : NULL;
+  if (query->table) snprintf(query->key, sizeof query->key, "%s", rest);
+  else query->span = atoll(rest);
+  sql("BEGIN");
+  PUT_ROW(QUERY, kind, strlen(kind), (int64_t)query_count, now);
+  sql("COMMIT");
+  printf("ok 0 query %s\n", query->name);
+}
+
+static void run(struct Query *query) {
+  size_t from = query->box_len;
+  List *list = query->table ? find(query->table, query->key, strlen(query->key)) : NULL;
   if (list) {
-    for (; done < list->len && docs[list->docs[done] - 1].arrival < now; done++) deliver(list->docs[done], docs[list->docs[done] - 1].arrival);
+    for (; query->done < list->len && docs[list->docs[query->done] - 1].arrival < now; query->done++)
+      deliver(query, list->docs[query->done], docs[list->docs[query->done] - 1].arrival);
   } else {
-    for (; done < doc_count && docs[done].arrival + span < now; done++) {
-      List *answers = docs[done].id ? find(&replies, docs[done].id, docs[done].id_len) : NULL;
-      int64_t first = docs[done].arrival + span;
-      if (!answers || !answers->len || docs[answers->docs[0] - 1].arrival > first) deliver(done + 1, first);
+    for (; query->done < doc_count && docs[query->done].arrival + query->span < now; query->done++) {
+      struct Doc *doc = &docs[query->done];
+      List *answers = doc->id ? find(&replies, doc->id, doc->id_len) : NULL;
+      int64_t first = doc->arrival + query->span;
+      if (!answers || !answers->len || docs[answers->docs[0] - 1].arrival > first) deliver(query, query->done + 1, first);
     }
   }
-  printf("ok %zu run %zu before %lld\n", box_len - from, ++runs, (long long)now);
-  for (; from < box_len; from++) printf("doc %u first %lld\n", box[from].doc, (long long)box[from].first);
+  runs++;
+  sql("BEGIN");
+  PUT_ROW(RUN, NULL, 0, (int64_t)runs, query - queries + 1, now);
+  for (size_t i = from; i < query->box_len; i++)
+    PUT_ROW(PICK, NULL, 0, (int64_t)(picks + i - from + 1), query - queries + 1, (int64_t)runs, query->box[i].doc, query->box[i].first);
+  sql("COMMIT");
+  picks += query->box_len - from;
+  printf("ok %zu run %zu before %lld\n", query->box_len - from, runs, (long long)now);
+  for (; from < query->box_len; from++) printf("doc %u first %lld\n", query->box[from].doc, (long long)query->box[from].first);
+}
+
+static struct Query *query_named(const char *name) {
+  /* The queries are run in the order of their definition, so the one after the last is mostly right. */
+  static size_t last;
+  for (size_t i = 0; i < query_count; i++)
+    if (!strcmp(queries[(last + i) % query_count].name, name)) return &queries[last = (last + i) % query_count];
+  exit(2);
 }
 
 int main(int count, char **args) {
@@ -194,7 +314,7 @@ int main(int count, char **args) {
   setvbuf(stdin, in, _IOFBF, sizeof in);
   setvbuf(stdout, out, _IOFBF, sizeof out);
 #ifdef SQLITE
-  if (count > 1) read_store(args[1]);
+  if (count > 1) open_store(args[1]);
 #else
   (void)count, (void)args;
 #endif
@@ -205,23 +325,24 @@ int main(int count, char **args) {
       printf("ok 0 at %lld\n", (long long)now);
     } else if (is(line, "mail")) {
       read_mail();
+    } else if (is(line, "mbox")) {
+      read_mbox();
     } else if (is(line, "as ")) {
       printf("ok 0 as %s\n", line + 3);
     } else if (is(line, "note ")) {
       printf("ok 0 note\n");
-    } else if (is(line, "query q ")) {
-      char *rest = strchr(line + 8, ' ');
-      table = is(line + 8, "word") ? &words : is(line + 8, "sender") ? &senders : NULL;
-      if (table) snprintf(key, sizeof key, "%s", rest + 1);
-      else span = atoll(rest + 1);
-      printf("ok 0 query q\n");
-    } else if (is(line, "run q")) {
-      run();
+    } else if (is(line, "query ")) {
+      define(line + 6);
+    } else if (is(line, "run ")) {
+      run(query_named(line + 4));
     } else {
       printf("no 1\n");
       fflush(stdout);
     }
     if (!together) fflush(stdout);
   }
+#ifdef SQLITE
+  close_store();
+#endif
   return 0;
 }

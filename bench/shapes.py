@@ -104,8 +104,11 @@ SQL_SILENT = (
     f" AND r.ts <= m.ts + {TEN_DAYS}) ORDER BY 2, 1"
 )
 
-# What SQLite is asked in place of a first run or of a question, by the name of the row.
+# What SQLite is asked in place of a first run or of a question, by the name of the row. Words are looked up in a table of FTS5.
 SQL = {
+    "a word": "SELECT num, ts FROM doc WHERE num IN (SELECT rowid FROM word WHERE word MATCH 'lunch') ORDER BY 2, 1",
+    "no reply within ten days": f"SELECT num, ts + {TEN_DAYS} FROM doc m WHERE ts + {TEN_DAYS} < :now AND NOT EXISTS (SELECT 1 FROM doc r"
+    f" WHERE r.inreplyto = m.msgid AND r.ts <= m.ts + {TEN_DAYS}) ORDER BY 2, 1",
     "a thread": SQL_THREAD.format(""),
     "a silent thread": SQL_SILENT,
     "a thread, but not mine": SQL_THREAD.format(" AND r.sender <> m.sender"),
@@ -211,10 +214,12 @@ def measure_sqlite(size, sql):
         "CREATE INDEX doc_ts ON doc (ts); CREATE INDEX doc_sender ON doc (sender); CREATE INDEX doc_msgid ON doc (msgid);"
         "CREATE INDEX doc_subject ON doc (subject); CREATE INDEX doc_inreplyto ON doc (inreplyto);"
         "CREATE INDEX ref_msgid ON ref (msgid); CREATE INDEX ref_num ON ref (num); CREATE INDEX note_doc ON note (doc);"
+        "CREATE VIRTUAL TABLE word USING fts5 (body, content='');"
     )
     for i in range(1, size + 1):
         parent = f"{i - 1}@example.org" if i % 4 == 0 else None
         base.execute("INSERT INTO doc VALUES (?, ?, ?, ?, ?, ?)", (i, 1000 + i, i % 10, f"{i}@example.org", i % 100, parent))
+        base.execute("INSERT INTO word (rowid, body) VALUES (?, ?)", (i, f"subject{i % 100} word{i % 50} rare{i} lunch"))
         if parent:
             base.execute("INSERT INTO ref VALUES (?, ?)", (i, parent))
         if i % 5 == 0:
@@ -300,7 +305,8 @@ def line(program, peer, name, size, query, event, peer_query, rounds):
     if name in SQL:
         found = [measure_sqlite(size, SQL[name]) for _ in range(TIMES)]
         seconds = statistics.median(it[0] for it in found)
-        beside = f"SQLite {figure(seconds, 'ms', 1e3)}; times {first / seconds:.1f}"
+        beside = f"{beside}; " if beside != "-" else ""
+        beside += f"SQLite {figure(seconds, 'ms', 1e3)}; times {first / seconds:.1f}"
         if replies.partition(b"\n")[2].partition(b"no 1\n")[0] != found[0][1]:
             beside += "; OTHER ROWS"
     if refused:
