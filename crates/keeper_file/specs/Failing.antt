@@ -42,7 +42,7 @@ abbrev pub FailsToAttachFrom : {S : Type 0} → store.Ghosts S → Held S → He
 FailsToAttachFrom g old new given = ((given ≡ fault.Memory) × (new ≡ old)) ⊎ sql.FailsToAttach g old new given
 
 module _ {A O : Type 0} {g : store.Ghosts A} where
-  -- the attach of the store that is open failed, other than by memory; why, if the disk was honest
+  -- the attach of the open store gave `Failed`: if the disk was honest, one of its calls failed
   abbrev pub FailsToAttachOpen : Inner A O g → Inner A O g → Type 0
   FailsToAttachOpen (Memory old) (Memory new) =
       HasCleanDisk (state over_memory new.keeper.connection)
@@ -50,14 +50,14 @@ module _ {A O : Type 0} {g : store.Ghosts A} where
   FailsToAttachOpen (File old) (File new) = HasCleanDisk (state g new.connection) → FailsToAttachFrom g old.connection new.connection fault.Failed
   FailsToAttachOpen _ _ = ⊥
 
-  -- an attach at a path may fail to open a store: at `:memory:` only if the opener was used, and if a store in memory was open,
-  -- only at another path; never if files were open
+  -- an attach at this path may open no store: at `:memory:` only if the opener was used; over a store in memory only at another
+  -- path; over open files never
   abbrev pub FailsToOpenAt : FilesOf O → Inner A O g → List ℕ → Type 0
   FailsToOpenAt files (Unopened u) at = at ≡ codes ":memory:" → files.is_unused u.opener ≡ false
   FailsToOpenAt files (Memory m) at = at ≢ codes ":memory:"
   FailsToOpenAt files (File k) at = ⊥
 
--- an attach failed: it opened no store, or the one that was open, or that it opened, was not attached
+-- an attach gave `Failed`: it opened no store, or the store that was open, or that it opened, was not attached
 abbrev pub FailsToAttachAt : {A O : Type 0} → FilesOf O → (g : store.Ghosts A) → Inner A O g → Inner A O g → List ℕ → Type 0
 FailsToAttachAt {A} {O} files g old new at =
     FailsToOpenAt files old at ⊎ ((mid : Inner A O g) × ((mid ≡ old) ⊎ IsNewlyOpened files g mid) × FailsToAttachOpen mid new)

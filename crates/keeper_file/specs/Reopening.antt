@@ -22,7 +22,7 @@ module _ {D : Type 0} {g : Ghosts D} where
   FailsToCloseTo was (left.Store last) e = FailsToClose was last e
   FailsToCloseTo was _ e = ⊥
 
-  -- the files that the close of a connection gave failed to open with this error, which left that
+  -- a connection was closed, and the files that this gave failed to open with this error, which left that
   pub record FailsToOpenClosed (was : Held (FileStore D g)) (rest : Leftover D g) (e : Error) : Type 0 where
     pub files : Files D
     pub closed : AreClean g files.log files.db → IsCopied was files
@@ -32,7 +32,7 @@ module _ {D : Type 0} {g : Ghosts D} where
   abbrev pub FailsToOpenAgain : Held (FileStore D g) → Leftover D g → Error → Type 0
   FailsToOpenAgain was rest e = FailsToCloseTo was rest e ⊎ FailsToOpenClosed was rest e
 
-  -- a connection that was opened again, and tells what was told before, failed to be attached
+  -- a connection that was opened again, and tells what was told before, was not attached
   pub record FailsToAttachAgain (Told : Tables → Type 0) (now : Held (FileStore D g)) (given : AttachFault) : Type 0 where
     pub opened : Held (FileStore D g)
     pub honest : HasCleanDisk (file_state opened)
