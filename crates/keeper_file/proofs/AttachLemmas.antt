@@ -121,7 +121,8 @@ pub failed_from : {S : Type 0} (g : Ghosts S) (old new : Held S) (result : Resul
     → FailsToAttachFrom g old new fault.Failed
 failed_from g old new result failed fails clean = subst (λ r. IfErr r (FailsToAttachFrom g old new)) failed (fails clean)
 
-pub failed_open : {A O : Type 0} {g : Ghosts A} (old now new : Inner A O g) → old ≡ now → FailsToAttachOpen now new → FailsToAttachOpen old new
+pub failed_open : {A O : Type 0} {g : Ghosts A} (old now new : Inner A O g) → old ≡ now → FailsToAttachOpen now new
+    → FailsToAttachOpen old new
 failed_open old now new is fails = subst (λ k. FailsToAttachOpen k new) (sym is) fails
 
 -- ---- a store in memory

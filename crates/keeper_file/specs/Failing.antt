@@ -47,7 +47,8 @@ module _ {A O : Type 0} {g : store.Ghosts A} where
   FailsToAttachOpen (Memory old) (Memory new) =
       HasCleanDisk (state over_memory new.keeper.connection)
       → FailsToAttachFrom over_memory old.keeper.connection new.keeper.connection fault.Failed
-  FailsToAttachOpen (File old) (File new) = HasCleanDisk (state g new.connection) → FailsToAttachFrom g old.connection new.connection fault.Failed
+  FailsToAttachOpen (File old) (File new) =
+      HasCleanDisk (state g new.connection) → FailsToAttachFrom g old.connection new.connection fault.Failed
   FailsToAttachOpen _ _ = ⊥
 
   -- an attach at this path may open no store: at `:memory:` only if the opener was used; over a store in memory only at another
