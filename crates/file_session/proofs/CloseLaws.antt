@@ -69,6 +69,12 @@ pub from_both : {X : Type 0} (P Q : X → Type 0) (R : Type 0) (o : Option X) �
 from_both P Q R (Some x) is p q so = so x p q
 from_both P Q R None is p q so = absurd (differ is)
 
+-- what comes back if no file was open
+pub unplaced : {X : Type 0} (A M : Type 0) (At : X → Type 0) (o : Option X) → is_some o ≡ true → IfSome o (λ x. (A × At x) ⊎ M) → A ⊎ M
+unplaced A M At (Some x) is (inl at) = inl at.0
+unplaced A M At (Some x) is (inr memory) = inr memory
+unplaced A M At None is placed = absurd (differ is)
+
 -- a keeper that has files open neither failed nor was refused
 pub is_there : {X B : Type 0} (open_one : Option X) (keeper : X) (status : ℕ) → open_one ≡ Some keeper
     → ((status ≡ 5) ⊎ (status ≡ 6) → (is_some open_one ≡ false) × B) → (status ≡ 5) ⊎ (status ≡ 6) → ⊥

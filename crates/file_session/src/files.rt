@@ -1,6 +1,6 @@
 //! The files of a store, from their open to their close.
 ghost use Rattle.std.specs.Prelude.{◌≡◌, ◌≢◌, ◌⊎◌, ◌↔◌, [], true, false, not, Some, None, Ok};
-ghost use Rattle.std.specs.Prelude.{IfSome, is_some};
+ghost use Rattle.std.specs.Prelude.{IfSome, is_some, ⊤};
 ghost use Rattle.std.specs.List.{All};
 ghost use Rattle.std.specs.Str.{IsUtf8};
 ghost use Rattle.tap_base.specs.Ledgers.{IsBlankOf};
@@ -162,7 +162,7 @@ pub fn run_to_close<'a, C: StoreProgram, I: Peer<K>, K: Sink, S: Start, L: Ledge
 }
 
 /// Makes the call over the files that the words name, and closes them unless the keeper failed or
-/// the store was refused. Returns the status.
+/// the store was refused. Returns the status, and what the close gave, as `run_to_close`.
 pub fn run_session<C: StoreProgram, I: Peer<K>, K: Sink, S: Start, L: Ledger>(
     rt: &HostRuntime,
     words: &Texts,
@@ -170,18 +170,32 @@ pub fn run_session<C: StoreProgram, I: Peer<K>, K: Sink, S: Start, L: Ledger>(
     sink: &mut K,
     start: S,
     blank: Blank,
-) -> u8
+) -> (
+    u8,
+    Option<Result<Option<Files<FileFrom<S>>>, (Error, FileStore<FileFrom<S>>)>>,
+)
     requires blank { IsBlankOf L.name L.parts blank }
     requires texts { All IsUtf8 words.now }
-    ensures { C.ends words.now result (I.left source.old) (I.left source.new) (K.out sink.old)
-        (K.out sink.new)
+    ensures ends { C.ends words.now result.0 (I.left source.old) (I.left source.new)
+        (K.out sink.old) (K.out sink.new)
         (I.faults source.old) (I.faults source.new) (K.faults sink.old) (K.faults sink.new) }
+    ensures closes { (result.1 ≡ None) ↔ ((result.0 ≡ 5) ⊎ (result.0 ≡ 6)) }
+
+    // No file was open only if words were refused or it was out of memory, or if the words name a
+    // path in memory.
+    ensures no_file { result.1 ≡ Some (Ok None)
+        → ((result.0 ≡ 2) ⊎ (result.0 ≡ 7)) ⊎ IsInMemory (C.path words.now) }
+    ensures refused { result.0 ≡ 2 → result.1 ≡ Some (Ok None) }
+    ensures end { SessionEnd S.Start (λ t versions tells leaves.
+        C.ends_over words.now result.0 (I.left source.old) (I.left source.new) (K.out sink.old)
+        (K.out sink.new)
+        (I.was_asked source.old) (I.was_asked source.new)
+        t (ImageHasVersion (image_at S.Start)) versions tells leaves) result.0 result.1
+        (λ inner. ⊤) }
 {
     let (status, closed, unopened) = run_to_close::<C, _, _, _, L>(
         rt, words, source, sink, start, blank,
     );
-    // A close that fails loses no committed row, and changes no status.
-    drop(closed);
     drop(unopened);
-    status
+    (status, closed)
 }

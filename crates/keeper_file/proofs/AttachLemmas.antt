@@ -1,7 +1,7 @@
 -- An attach, from the open of the store and the attach of what is open.
 use Rattle.std.proofs.Common.{◌≡◌, ◌⊎◌, ◌≤◌, ℕ, ℤ, List, true, false, Option, Some, None, Result, Ok, Err, inl, inr, refl, sym, ap, subst}
 use Rattle.std.proofs.Common.{◌∙◌}
-use Rattle.std.specs.Prelude.{codes}
+use Rattle.std.specs.Prelude.{codes, IfErr}
 use Rattle.std.proofs.lemmas.Result.{IfOk-weaker}
 use Rattle.tap_base.specs.Counts.{Rose}
 use Rattle.tap_rows.specs.declared.tables.Tables.{Tables}
@@ -9,7 +9,10 @@ use Rattle.keeper_core.specs.Keeping.{IsDurable}
 use Rattle.keeper_core.specs.declared.fault.AttachFault.{AttachFault}
 use Rattle.keeper_core.specs.declared.fault.AttachFault.TheVariants as fault
 use Rattle.sqlite_trees.specs.declared.store.Store.{Ghosts}
+use Rattle.sqlite.specs.Held.{Held, state}
+use Rattle.sqlite.specs.State.{HasCleanDisk}
 use Rattle.keeper_file.specs.OpenerFiles.{FilesOf}
+use Rattle.keeper_file.specs.Failing.{FailsToAttachFrom, FailsToAttachOpen}
 use Rattle.keeper_file.specs.Attaching.{Attaches}
 use Rattle.keeper_file.specs.Cases.{Tells, HasVersion, IsHonest, MayLeave, is_attached, is_stopped, faults_of, path_of, is_stopped_at}
 use Rattle.keeper_file.specs.Cases.{memory_path}
@@ -110,6 +113,17 @@ pub attaches_from :
     {A O : Type 0} (files : FilesOf O) (g : Ghosts A) (old now new : Inner A O g) (at : List ℕ) (result : Result Tables AttachFault)
     → old ≡ now → Attaches files g now new at result → Attaches files g old new at result
 attaches_from files g old now new at result is a = subst (λ k. Attaches files g k new at result) (sym is) a
+
+-- ---- an attach that failed
+
+pub failed_from : {S : Type 0} (g : Ghosts S) (old new : Held S) (result : Result Tables AttachFault) → result ≡ Err fault.Failed
+    → (HasCleanDisk (state g new) → IfErr result (FailsToAttachFrom g old new)) → HasCleanDisk (state g new)
+    → FailsToAttachFrom g old new fault.Failed
+failed_from g old new result failed fails clean = subst (λ r. IfErr r (FailsToAttachFrom g old new)) failed (fails clean)
+
+pub failed_open : {A O : Type 0} {g : Ghosts A} (old now new : Inner A O g) → old ≡ now → FailsToAttachOpen now new
+    → FailsToAttachOpen old new
+failed_open old now new is fails = subst (λ k. FailsToAttachOpen k new) (sym is) fails
 
 -- ---- a store in memory
 

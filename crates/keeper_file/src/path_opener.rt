@@ -1,6 +1,7 @@
 //! Opens the files of a path.
 
-ghost use Rattle.std.specs.Prelude.{◌≡◌, ◌⊎◌, ℤ, true, false, IsSome, IfOk, IfErr, IfSome, OnErr};
+ghost use Rattle.std.specs.Prelude.{◌≡◌, ◌⊎◌, ℤ, true, false, Err, is_some, IsSome, IfOk, IfErr};
+ghost use Rattle.std.specs.Prelude.{IfSome, OnErr};
 ghost use Rattle.sqlite.specs.State.{HasCleanDisk};
 ghost use Rattle.sqlite.specs.Files.{file_state, IsCleanLeft};
 ghost use Rattle.sqlite_std_file.specs.File.{IsFresh};
@@ -31,6 +32,7 @@ impl<'a, S: Start> PathOpener<'a, S, FileFrom<S>> {
     ghost use Rattle.keeper_file.specs.PathFiles.{path_files};
 
     pub fn new(rt: &'a HostRuntime, start: S) -> PathOpener<'a, S, FileFrom<S>>
+        ensures unused { (path_files S.Start).is_unused result ≡ true }
         ensures clean { (path_files S.Start).clean result }
     {
         PathOpener {
@@ -102,6 +104,8 @@ impl<S: Start> Opener<FileStore<FileFrom<S>>> for PathOpener<'_, S, FileFrom<S>>
             → AreCleanSoFar (image_at S.Start) self.old.start self.old.left) }
         ensures kind { IfErr result (λ fault. (fault ≡ AttachFault.Memory)
             ⊎ (fault ≡ AttachFault.Failed)) }
+        ensures once { is_some self.old.start ≡ false → result ≡ Err AttachFault.Failed }
+        ensures used { is_some self.new.start ≡ false }
 
         // Beside the trait's clauses: if this was the first open, it left something of the files,
         // and the disk was honest, why it failed. Why the system refused to open the files is in no

@@ -20,7 +20,7 @@ fn main(rt: HostRuntime) -> ExitCode {
     };
     let mut source = StdSource::new(rt.stdin());
     let mut sink = StdSink::new(rt.stdout());
-    let status = run_session::<MailFilter, _, _, _, Brand>(
+    let (status, closed) = run_session::<MailFilter, _, _, _, Brand>(
         &rt,
         &words,
         &mut source,
@@ -28,5 +28,7 @@ fn main(rt: HostRuntime) -> ExitCode {
         Unknown,
         Blank::new(1),
     );
+    // A close that fails loses no committed row, and changes no status.
+    drop(closed);
     ExitCode::from(status)
 }

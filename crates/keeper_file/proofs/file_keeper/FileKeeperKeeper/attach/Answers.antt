@@ -1,3 +1,5 @@
+use Rattle.std.proofs.Common.{◌≡◌, Err, inl, inr, ap}
+use Rattle.keeper_core.specs.declared.fault.AttachFault.TheVariants as fault
 use Rattle.keeper_file.proofs.AttachLemmas.{not_opened, then_attached}
 use Rattle.keeper_file.proofs.DurableLemmas.{told_durable}
 use Rattle.keeper_file.proofs.file_keeper.FileKeeperKeeper.attach.Goals as goal
@@ -27,3 +29,12 @@ returns-in-Err-clause-at_place g c = record {
   memory = λ was now. absurd (let a = c.in-Err.ensures.shut was in let b = now in cc);
   same = c.ready.ensures.same_store;
 }
+
+pub returns-in-Ok-clause-fails : goal.returns-in-Ok-clause-fails
+returns-in-Ok-clause-fails g c failed = inr (c.ready.new.inner, c.in-Ok.ensures.from, c.attach_open.ensures.fails failed)
+
+pub returns-in-Err-clause-fails : goal.returns-in-Err-clause-fails
+returns-in-Err-clause-fails g c failed =
+    let is = failed in
+    let same : c.in-Err.fault ≡ fault.Failed = cc in
+    inl (c.in-Err.ensures.fails (ap Err same))
