@@ -20,12 +20,18 @@ SIZES = [int(it) for it in os.environ.get("MAILS", "10000").split()]
 QUERIES = int(os.environ.get("QUERIES", "1000"))
 TIMES = int(os.environ.get("TIMES", "3"))
 OF_A_FILE = 12_500
+OF_A_USER = 50
 
 
 def message(i):
     """A mail of bench/costs.py as it stands in a mailbox file."""
     lines = mail(i).split("\n")
     return "\n".join(["From sender Thu Jan  1 10:00:00 2026", *lines[1:-2], "", ""])
+
+
+def of_users(commands):
+    """The commands, so many of each user."""
+    return [f"as user{i // OF_A_USER}\n{it}" if i % OF_A_USER == 0 else it for i, it in enumerate(commands)]
 
 
 def scripts(mails):
@@ -35,9 +41,9 @@ def scripts(mails):
     for first in range(1, mails + 1, OF_A_FILE):
         load += ["mbox\n", *(message(i) for i in range(first, min(first + OF_A_FILE, mails + 1))), ".\n"]
     words = random.Random(1).sample(sorted({it.lower() for it in WORDS}), QUERIES)
-    ours = [f"query q{i} m.words HAS '{it}'\n" for i, it in enumerate(words)]
-    others = [f"query q{i} word {it}\n" for i, it in enumerate(words)]
-    runs = [f"run q{i}\n" for i in range(QUERIES)]
+    ours = of_users([f"query q{i} m.words HAS '{it}'\n" for i, it in enumerate(words)])
+    others = of_users([f"query q{i} word {it}\n" for i, it in enumerate(words)])
+    runs = of_users([f"run q{i}\n" for i in range(QUERIES)])
     made = {}
     for name, queries in (("", ours), (".peer", others)):
         for part, text in (("empty", []), ("load", load), ("queries", [*load, "at 2000\n", *queries]), ("runs", [*load, "at 2000\n", *queries, *runs])):

@@ -246,7 +246,7 @@ static struct Query {
   char name[32], key[256];
   Table *table;
   int64_t span;
-  size_t done;
+  size_t done, runs;
   struct { uint32_t doc; int64_t first; } *box;
   size_t box_len, box_room;
 } *queries;
@@ -293,7 +293,7 @@ static void run(struct Query *query) {
     PUT_ROW(PICK, NULL, 0, (int64_t)(picks + i - from + 1), query - queries + 1, (int64_t)runs, query->box[i].doc, query->box[i].first);
   sql("COMMIT");
   picks += query->box_len - from;
-  printf("ok %zu run %zu before %lld\n", query->box_len - from, runs, (long long)now);
+  printf("ok %zu run %zu before %lld\n", query->box_len - from, ++query->runs, (long long)now);
   for (; from < query->box_len; from++) printf("doc %u first %lld\n", query->box[from].doc, (long long)query->box[from].first);
 }
 
