@@ -83,7 +83,8 @@ echo "  its document: $(sqlite3 "$store" 'SELECT num, arrival, hex(body) FROM do
 
 # A store that sqlite3 makes by the statements of the program's source. The program reads it and adds to it.
 other="$scratch/other.db"
-grep -oh 'CREATE TABLE IF NOT EXISTS.*STRICT' "$top/crates/keeper_sql/src/create.rt" | sed 's/$/;/' >"$scratch/other.sql"
+sed -e ':more' -e '/\\$/{ N; s/\\\n *//; b more' -e '}' "$top/crates/keeper_sql/src/create.rt" |
+  grep -o 'CREATE TABLE IF NOT EXISTS[^"]*STRICT' | sed 's/$/;/' >"$scratch/other.sql"
 cat >>"$scratch/other.sql" <<'SQL'
 INSERT INTO meta VALUES (1, 1);
 INSERT INTO docs VALUES (1, 100, x'5375626a6563743a2068690a0a');
