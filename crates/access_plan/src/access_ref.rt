@@ -25,8 +25,8 @@ pub enum AccessRef<'a> {
     AllNotes,
 }
 
-// Returns the access to all rows of a table.
-pub(crate) fn whole<'a>(table: Table) -> AccessRef<'a>
+/// Returns the access to all rows of a table.
+pub fn whole<'a>(table: Table) -> AccessRef<'a>
     ensures { access_at result ≡ whole table }
 {
     match table {

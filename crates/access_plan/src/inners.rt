@@ -1,47 +1,100 @@
 //! The accesses to the rows of each EXISTS of a pool, found once.
 
-ghost use Rattle.std.specs.Prelude.{◌≡◌, IfOk};
+ghost use Rattle.std.specs.Prelude.{◌≡◌, [], ◌∷◌, ◌++◌, IfOk, OnOk, Option};
 ghost use Rattle.tap_base.specs.Bytes.{IsPlaceOf};
 ghost use Rattle.tql_core.specs.Trees.{tree_at};
-ghost use Rattle.access_plan.specs.Inners.{exists_access, inners_of};
-ghost use Rattle.access_plan.specs.Views.{option_access};
+ghost use Rattle.time_marks.specs.Marks.{guards_of};
+ghost use Rattle.access_plan.specs.Accesses.{is_other, access_by, accesses_by};
+ghost use Rattle.access_plan.specs.Inners.{exists_accesses, inners_of};
+ghost use Rattle.access_plan.specs.Views.{is_known, option_access};
 
-use crate::{Access, AccessRef, inner_access};
+use crate::guards::guard_access;
+use crate::kind::near_kinds;
+use crate::{Access, AccessRef, Known};
 use node_pool::{NodeId, Pool};
 use std::alloc::Global;
 use tap_base::{Memory, Rows};
-use tql_core::{TNode, node_at};
+use tql_core::{Atom, TNode, Var, node_at};
+use tql_tree::Table;
 
-// Returns the access to the rows of the condition at the number, if it is an EXISTS.
-fn exists_access<'a>(pool: &'a Pool<TNode>, id: NodeId) -> Option<AccessRef<'a>>
+/// Returns the access of the index that the guard gives, of whichever kind. `None` comes if and
+/// only if it gives none.
+pub fn access_by<'a>(known: Known, var: Var, table: Table, guard: &'a Atom) -> Option<AccessRef<'a>>
+    ensures { option_access result ≡ access_by (is_known known.entry) var table guard.now }
+{
+    for kind in near_kinds(table) {
+        if let Some(access) = guard_access(known, var, *kind, guard) {
+            return Some(access);
+        }
+    }
+    None
+}
+
+// Appends the access that the guard gives, beside rows of all other variables, if it gives one.
+fn add_access(var: Var, table: Table, guard: &Atom, into: &mut Rows<Access>) -> Result<(), Memory>
+    ensures { OnOk result
+        (into.new ≡ into.old ++ accesses_by (is_other var) var table (guard.now ∷ [])) }
+{
+    match access_by(Known::AllBut(var), var, table, guard) {
+        None => Ok(()),
+        Some(access) => {
+            into.push(access.to_access()?)?;
+            Ok(())
+        }
+    }
+}
+
+// Appends the accesses to the variable's rows that the guards of the condition at the number give.
+fn add_accesses(
+    pool: &Pool<TNode>,
+    id: NodeId,
+    var: Var,
+    table: Table,
+    into: &mut Rows<Access>,
+) -> Result<(), Memory>
     requires { IsPlaceOf pool.now id.0 }
-    ensures { option_access result ≡ exists_access (tree_at pool.now id.0) }
+    ensures { OnOk result (into.new
+        ≡ into.old ++ accesses_by (is_other var) var table (guards_of (tree_at pool.now id.0))) }
 {
     match node_at(pool, id) {
-        TNode::Exists(var, table, x) => Some(inner_access(pool, *x, *var, *table)),
-        _ => None,
+        TNode::Plain(guard) => add_access(var, table, guard, into),
+        TNode::All(l, r) => {
+            add_accesses(pool, *l, var, table, into)?;
+            add_accesses(pool, *r, var, table, into)
+        }
+        _ => Ok(()),
     }
 }
 
-// Copies an access, if there is one.
-fn copied(access: Option<AccessRef>) -> Result<Option<Access>, Memory>
-    ensures { IfOk result (λ copy. copy ≡ option_access access.entry) }
+// Appends the accesses to the rows of the condition at the number, if it is an EXISTS.
+fn add_exists(pool: &Pool<TNode>, id: NodeId, into: &mut Rows<Access>) -> Result<(), Memory>
+    requires { IsPlaceOf pool.now id.0 }
+    ensures { OnOk result (into.new ≡ into.old ++ exists_accesses (tree_at pool.now id.0)) }
 {
-    match access {
-        None => Ok(None),
-        Some(access) => Ok(Some(access.to_access()?)),
+    match node_at(pool, id) {
+        TNode::Exists(var, table, x) => add_accesses(pool, *x, *var, *table, into),
+        _ => Ok(()),
     }
 }
 
-/// Returns for each number of the pool the access to the rows of its condition, if this is an
+// Returns the accesses to the rows of the condition at the number, if it is an EXISTS.
+fn exists_accesses(alloc: Global, pool: &Pool<TNode>, id: NodeId) -> Result<Rows<Access>, Memory>
+    requires { IsPlaceOf pool.now id.0 }
+    ensures { IfOk result (λ found. found ≡ exists_accesses (tree_at pool.now id.0)) }
+{
+    let mut found = Rows::new(alloc);
+    add_exists(pool, id, &mut found)?;
+    Ok(found)
+}
+
+/// Returns for each number of the pool the accesses to the rows of its condition, if this is an
 /// EXISTS.
-pub(crate) fn inners_of(alloc: Global, pool: &Pool<TNode>) -> Result<Rows<Option<Access>>, Memory>
+pub(crate) fn inners_of(alloc: Global, pool: &Pool<TNode>) -> Result<Rows<Rows<Access>>, Memory>
     ensures { IfOk result (λ inners. inners ≡ inners_of pool.now) }
 {
     let mut inners = Rows::new(alloc);
     for id in 0..pool.len() {
-        let access = copied(exists_access(pool, NodeId(id)))?;
-        inners.push(access)?;
+        inners.push(exists_accesses(alloc, pool, NodeId(id))?)?;
     }
     Ok(inners)
 }

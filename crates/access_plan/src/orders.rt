@@ -129,9 +129,9 @@ fn orders_of(alloc: Global, parts: &[Ranged]) -> Result<Rows<Rows<Reach>>, Memor
 }
 
 /// Returns the query unchanged, for each probe the order of its variables with the access to each
-/// one's rows, and for each EXISTS of the bodies the access to its rows. After the driving row,
-/// again and again, comes the first step of the path that has an access of the index, else the
-/// first one.
+/// one's rows, and for each EXISTS of the bodies the accesses to its rows that its guards give.
+/// After the driving row, again and again, comes the first step of the path that has an access of
+/// the index, else the first one.
 /// `Memory` comes if memory runs out.
 pub fn plan(alloc: Global, query: RangedQuery) -> Result<Plan, Memory>
     ensures query { IfOk result (λ plan. plan.query ≡ query) }

@@ -5,15 +5,12 @@ use Rattle.tap_rows.specs.declared.tables.Tables.{Tables}
 use Rattle.tap_rows.specs.Kept.{Each}
 use Rattle.tql_tree.specs.declared.table.Table.{Table}
 use Rattle.tql_tree.specs.declared.table.Table.TheVariants.{Docs, Notes}
-use Rattle.tql_core.specs.declared.term.Var.{Var}
-use Rattle.tql_core.specs.Condition.{Condition}
 use Rattle.tql_core.specs.Row.{OfDoc, OfNote, rows_of}
 use Rattle.tql_core.specs.Values.{Env}
 use Rattle.row_index.specs.Orders.{doc_arrival, note_arrival, up_to}
 use Rattle.access_plan.specs.declared.access.Access.{Access}
 use Rattle.access_plan.specs.declared.access.Access.TheVariants.{AllDocs, AllNotes}
-use Rattle.access_plan.specs.Accesses.{inner_access}
-use Rattle.probe_eval.specs.Work.{admits_by, rows_by, all_rows_by, reached}
+use Rattle.probe_eval.specs.Work.{admits_by, rows_by, all_rows_by}
 use Rattle.probe_eval.proofs.AccessLists.{picked, all_by}
 use Rattle.tap_base.specs.Numbers.{IsMoment}
 
@@ -36,7 +33,3 @@ module _ (last : ℤ) (T : Tables) (late : pos 250000000000 ≤ℤ last) (docs :
   all_admitted AllDocs env = rows_come Docs
   all_admitted AllNotes env = rows_come Notes
   all_admitted a env = refl
-
-  pub inner_reached : (v : Var) (t : Table) (x : Condition) (env : Env) (a : Access) → a ≡ inner_access v t x
-      → rows_by last a env T ≡ reached T v t x env
-  inner_reached v t x env a e = ap (λ z. rows_by last z env T) e ∙ all_admitted (inner_access v t x) env

@@ -1,8 +1,8 @@
 -- Rows of a variable that no guard names beside one without a row are alike: the rest of a path exists beside all of them or beside none.
-use Rattle.std.proofs.Common.{◌≡◌, ◌∙◌, ℕ, ℤ, Bool, true, false, not, Option, Some, None, List, [], ◌∷◌, refl, sym, ap, subst, inl, inr}
-use Rattle.std.proofs.Common.{nat_eq, if◌then◌else◌}
-use Rattle.std.specs.Prelude.{◌⊎◌, ◌&&◌, ◌||◌, is_some, option_map, unwrap_or, int_le}
-use Rattle.std.specs.List.{list_any, list_all, flat_map}
+use Rattle.std.proofs.Common.{◌≡◌, ◌∙◌, ℕ, ℤ, Bool, true, false, not, Option, Some, None, List, [], ◌∷◌, length, filter, refl, sym, ap}
+use Rattle.std.proofs.Common.{subst, inl, inr, nat_eq, if◌then◌else◌}
+use Rattle.std.specs.Prelude.{◌⊎◌, ◌&&◌, ◌||◌, is_some, option_map, unwrap_or, int_le, nat_le}
+use Rattle.std.specs.List.{list_any, list_all, flat_map, find}
 use Rattle.std.proofs.lemmas.Bool.{cases_Bool, and_parts, or_cases, false≢true, eq-eqb}
 use Rattle.std.proofs.lemmas.Option.{none-some, cond_some}
 use Rattle.tap_base.specs.declared.numbers.Op.TheVariants.{Eq}
@@ -38,9 +38,9 @@ use Rattle.access_plan.specs.declared.access.Access.TheVariants.{ByWord, NotesOf
 use Rattle.access_plan.specs.declared.kind.AccessKind.{AccessKind}
 use Rattle.access_plan.specs.declared.kind.AccessKind.TheVariants as K
 use Rattle.access_plan.specs.declared.reach.Reach.{Reach}
-use Rattle.access_plan.specs.Accesses.{table_of, first_some, is_other, is_held, is_held_or, is_known_number, is_known_text, other_number}
-use Rattle.access_plan.specs.Accesses.{other_text, number_side, text_side, referring_side, reference_side, word_side, guard_access}
-use Rattle.access_plan.specs.Accesses.{near_kinds, whole}
+use Rattle.access_plan.specs.Accesses.{table_of, admits, accesses_by, first_some, is_other, is_held, is_held_or, is_known_number}
+use Rattle.access_plan.specs.Accesses.{is_known_text, other_number, other_text, number_side, text_side, referring_side, reference_side}
+use Rattle.access_plan.specs.Accesses.{word_side, guard_access, near_kinds, whole}
 use Rattle.access_plan.specs.Laws.{AreSame}
 use Rattle.access_plan.specs.Nearest.{kind_access, near, nearest, IsNearest}
 use Rattle.access_plan.proofs.Admits.{made_of, one_of}
@@ -49,13 +49,17 @@ use Rattle.access_plan.proofs.Fields as same
 use Rattle.access_plan.proofs.Nearests.{nearest_serves}
 use Rattle.probe_eval.specs.Open.{number_known, text_known, atom_known, atom_held, may_hold, are_open, path_open, is_apart, are_apart}
 use Rattle.probe_eval.specs.Open.{path_apart, may_go}
-use Rattle.probe_eval.specs.Work.{admits_by, docs_of_id, rows_by}
+use Rattle.probe_eval.specs.Cuts.{is_cut, passes_cut}
+use Rattle.probe_eval.specs.StepRows.{step_accesses, step_access, passes_open, passes_guards, passes_step, step_rows, next_rows}
+use Rattle.probe_eval.specs.Work.{admits_by, docs_of_id, rows_by, all_rows_by, is_list, access_length, is_least, shortest}
 use Rattle.probe_eval.specs.Laws.{RestsAreAlike}
 use Rattle.probe_eval.specs.Rests.{all_or, rest_of}
 use Rattle.probe_eval.proofs.Costs.{filter_same}
+use Rattle.probe_eval.proofs.LeastLaws.{found_in}
 use Rattle.probe_eval.proofs.NextRows.{nearest_held, held_alike}
 use Rattle.probe_eval.proofs.OpenLaws.{held_more, number_is, text_is, atom_is}
 use Rattle.probe_eval.proofs.RestSteps.{stopped, any_step}
+use Rattle.probe_eval.proofs.StepLaws.{of_step}
 
 -- is each variable of an access's other side among these?
 abbrev access_known : (ℕ → Bool) → Access → Bool
@@ -195,9 +199,41 @@ module _ (some : ℕ → Bool) (env final : Env) (h : AreSame some env final) (b
   rows_same access k T =
       filter_same (admits_by b access final) (admits_by b access env) (rows_of (table_of access) T) (admits_same access k)
 
+  plain_same : (access : Access) → access_known some access ≡ true → (row : Row) → admits access final row ≡ admits access env row
+  plain_same (ById e) k row = admits_same (ById e) k row
+  plain_same (ByMsgId e) k row = admits_same (ByMsgId e) k row
+  plain_same (ByParent e) k row = admits_same (ByParent e) k row
+  plain_same (BySender e) k row = admits_same (BySender e) k row
+  plain_same (BySubject e) k row = admits_same (BySubject e) k row
+  plain_same (ReferencedBy w) k row = admits_same (ReferencedBy w) k row
+  plain_same (ByReference e) k row = admits_same (ByReference e) k row
+  plain_same (ByWord e) k row = admits_same (ByWord e) k row
+  plain_same (NotesOf e) k row = admits_same (NotesOf e) k row
+  plain_same AllDocs k row = refl
+  plain_same AllNotes k row = refl
+
+  all_rows_same : (access : Access) → access_known some access ≡ true → (T : Tables) → all_rows_by access final T ≡ all_rows_by access env T
+  all_rows_same (ReferencedBy w) k T = ap (λ o. flat_map (docs_of_id T) (unwrap_or (on_row o (list_field References)) [])) (h w.0 k)
+  all_rows_same access k T = filter_same (admits access final) (admits access env) (rows_of (table_of access) T) (plain_same access k)
+
+  -- and a list that is as long
+  length_same : (access : Access) → access_known some access ≡ true → (T : Tables)
+      → access_length T final access ≡ access_length T env access
+  length_same (ById e) k T = refl
+  length_same AllDocs k T = refl
+  length_same AllNotes k T = refl
+  length_same access k T = ap length (all_rows_same access k T)
+
 all_same : {A : Type 0} (p q : A → Bool) (xs : List A) → ((x : A) → In x xs → p x ≡ q x) → list_all p xs ≡ list_all q xs
 all_same p q [] h = refl
 all_same p q (x ∷ xs) h = rw (h x (inl refl), all_same p q xs (λ y i. h y (inr i))) refl
+
+find_same : {A : Type 0} (p q : A → Bool) (xs : List A) → ((x : A) → In x xs → p x ≡ q x) → find p xs ≡ find q xs
+find_same p q [] h = refl
+find_same p q (x ∷ xs) h = elim (cases_Bool (q x)) [
+  | inl e ↦ rw (h x (inl refl), e) refl
+  | inr e ↦ rw (h x (inl refl), e) (find_same p q xs (λ y i. h y (inr i)))
+]
 
 whole_known : (some : ℕ → Bool) (t : Table) → access_known some (whole t) ≡ true
 whole_known some Docs = refl
@@ -283,8 +319,88 @@ module _ (T : Tables) (path : List Step) (b : ℤ) (v : Var) (known : ℕ → Bo
                 (false≢true (sym k.fresh ∙ x.more k.step.var.0 (guard_names known (is_held e) k.step.var kind.0 a.0 access a.2 m.0).0))
           ]
 
+  -- nor do those that guards give to a variable without a row
+  own_names : (e f : Env) → Alike e f → (u : Var) (t : Table) → is_held e u.0 ≡ false → (access : Access)
+      → In access (step_accesses path e u t) → access_known (is_other v) access ≡ true
+  own_names e f x u t fresh access i =
+      let s = of_step path e u t access i in
+      elim (settled s.step s.is_step s.given.guard s.given.is_guard) [
+        | inl n ↦ (guard_names (is_other v) (is_held e) u s.given.kind s.given.guard access s.given.gives n).1
+        | inr m ↦ absurd
+            (false≢true (sym fresh ∙ x.more u.0 (guard_names known (is_held e) u s.given.kind s.given.guard access s.given.gives m.0).0))
+      ]
+
+  -- so the shortest of them is the same
+  shortest_same : (e f : Env) → Alike e f → (u : Var) (t : Table) → is_held e u.0 ≡ false
+      → shortest T e (step_accesses path e u t) ≡ shortest T f (step_accesses path f u t)
+  shortest_same e f x u t fresh =
+      find_same (is_least T e (step_accesses path e u t)) (is_least T f (step_accesses path e u t)) (step_accesses path e u t) least
+      ∙ ap (λ h. shortest T f (flat_map (λ (step : Step). accesses_by h u t step.guards) path)) x.held
+    where
+      long : (a : Access) → In a (step_accesses path e u t) → access_length T e a ≡ access_length T f a
+      long a i = sym (length_same (is_other v) e f x.same b a (own_names e f x u t fresh a i) T)
+
+      least : (a : Access) → In a (step_accesses path e u t)
+          → is_least T e (step_accesses path e u t) a ≡ is_least T f (step_accesses path e u t) a
+      least a i =
+          all_same (λ o. nat_le (access_length T e a) (access_length T e o)) (λ o. nat_le (access_length T f a) (access_length T f o))
+          (step_accesses path e u t)
+          (λ o j. ap (nat_le (access_length T e a)) (long o j) ∙ ap (λ n. nat_le n (access_length T f o)) (long a i))
+
+  access_names : (e f : Env) → Alike e f → (r : Reach) → IsNearest path e r → is_held e r.var.0 ≡ false
+      → access_known (is_other v) (step_access T path e r) ≡ true
+  access_names e f x r k fresh = go (shortest T e (step_accesses path e r.var r.table)) refl
+    where
+      go : (o : Option Access) → shortest T e (step_accesses path e r.var r.table) ≡ o
+          → access_known (is_other v) (unwrap_or o r.access) ≡ true
+      go None q = reach_names e f x r k
+      go (Some a) q = own_names e f x r.var r.table fresh a
+          (found_in (is_least T e (step_accesses path e r.var r.table)) (step_accesses path e r.var r.table) a q)
+
+  -- the same rows pass
+  one_same : (e f : Env) → Alike e f → (u : Var) → is_held e u.0 ≡ false → (row : Row) (step : Step) → In step path → (a : Atom)
+      → In a step.guards → passes_open u e a row ≡ passes_open u f a row
+  one_same e f x u fresh row step i a j =
+      let y = bound e f x u row fresh in
+      elim (settled step i a j) [
+        | inl n ↦
+            ap (λ h. not (atom_known (λ k. nat_eq k u.0 || h k) a) || passes_cut u e a row) x.held
+            ∙ ap (λ t. not (atom_known (is_held_or f u) a) || (not (is_cut u a) || t))
+            (sym (atom_is (is_other v) (bind u row e) (bind u row f) y.same a n))
+        | inr m ↦
+            or_right (not (atom_known (is_held_or e u) a)) (passes_cut u e a row)
+            (or_right (not (is_cut u a)) (true_atom a (bind u row e)) (atom_is known one (bind u row e) y.first a m.0 ∙ m.1))
+            ∙ sym (or_right (not (atom_known (is_held_or f u) a)) (passes_cut u f a row)
+            (or_right (not (is_cut u a)) (true_atom a (bind u row f)) (atom_is known two (bind u row f) y.second a m.0 ∙ m.2)))
+      ]
+
+  pass_same : (e f : Env) → Alike e f → (u : Var) → is_held e u.0 ≡ false → (row : Row)
+      → passes_step u b e path row ≡ passes_step u b f path row
+  pass_same e f x u fresh row =
+      ap (λ c. int_le (arrival row) b && c)
+      (all_same (λ (step : Step). passes_guards u e step.guards row) (λ (step : Step). passes_guards u f step.guards row) path
+      (λ step i. all_same (λ a. passes_open u e a row) (λ a. passes_open u f a row) step.guards (λ a j.
+      one_same e f x u fresh row step i a j)))
+
+  walked_same : (e f : Env) → Alike e f → (u : Var) → is_held e u.0 ≡ false → (a : Access) → access_known (is_other v) a ≡ true
+      → step_rows a u b e path T ≡ step_rows a u b f path T
+  walked_same e f x u fresh a k = go (is_list a)
+    where
+      go : (c : Bool) → (if c then filter (passes_step u b e path) (all_rows_by a e T) else rows_by b a e T)
+          ≡ (if c then filter (passes_step u b f path) (all_rows_by a f T) else rows_by b a f T)
+      go true =
+          filter_same (passes_step u b e path) (passes_step u b f path) (all_rows_by a e T) (pass_same e f x u fresh)
+          ∙ ap (filter (passes_step u b f path)) (sym (all_rows_same (is_other v) e f x.same b a k T))
+      go false = sym (rows_same (is_other v) e f x.same b a k T)
+
+  next_same : (e f : Env) → Alike e f → (r : Reach) → IsNearest path e r → is_held e r.var.0 ≡ false
+      → next_rows T path b e r ≡ next_rows T path b f r
+  next_same e f x r k fresh =
+      walked_same e f x r.var fresh (step_access T path e r) (access_names e f x r k fresh)
+      ∙ ap (λ o. step_rows (unwrap_or o r.access) r.var b f path T) (shortest_same e f x r.var r.table fresh)
+
   abbrev beside : List Reach → Env → Reach → Bool
-  beside rs d r = list_any (λ row. rest_of T path b rs (bind r.var row d)) (rows_by b r.access d T)
+  beside rs d r = list_any (λ row. rest_of T path b rs (bind r.var row d)) (next_rows T path b d r)
 
   rest_same : (order : List Reach) (e f : Env) → Alike e f → rest_of T path b order e ≡ rest_of T path b order f
   rest_same [] e f x =
@@ -301,9 +417,8 @@ module _ (T : Tables) (path : List Step) (b : ℤ) (v : Var) (known : ℕ → Bo
           let k = nearest_serves path e r q in
           let fresh : is_held e r.var.0 ≡ false = ap (λ (w : Var). is_held e w.0) k.var ∙ k.fresh in
           ap (λ o. all_or o (beside rs e)) q
-          ∙ (any_same _ _ (rows_by b r.access e T) (λ row. each (bind r.var row e) (bind r.var row f) (bound e f x r.var row fresh))
-          ∙ ap (list_any (λ row. rest_of T path b rs (bind r.var row f)))
-          (sym (rows_same (is_other v) e f x.same b r.access (reach_names e f x r k) T)))
+          ∙ (any_same _ _ (next_rows T path b e r) (λ row. each (bind r.var row e) (bind r.var row f) (bound e f x r.var row fresh))
+          ∙ ap (list_any (λ row. rest_of T path b rs (bind r.var row f))) (next_same e f x r k fresh))
           ∙ sym (ap (λ o. all_or o (beside rs f)) (sym (nearest_held path e f x.held) ∙ q))
 
 module _ (T : Tables) (path : List Step) (b : ℤ) (env : Env) (v : Var) (apart : path_apart path env v ≡ true) where

@@ -2,7 +2,7 @@
 use Rattle.std.proofs.Common.{◌≡◌, ◌∙◌, ◌+◌, ◌≤◌, ℕ, ℤ, pos, Bool, true, false, not, ◌&&◌, ◌||◌, List, [], ◌∷◌, refl, sym, ap, subst, inl}
 use Rattle.std.proofs.Common.{inr, arith, if◌then◌else◌}
 use Rattle.std.specs.List.{list_any}
-use Rattle.std.proofs.lemmas.Bool.{cases_eq, eq-eqb, false≢true}
+use Rattle.std.proofs.lemmas.Bool.{cases_Bool, cases_eq, eq-eqb, false≢true}
 use Rattle.tap_rows.specs.declared.tables.Tables.{Tables}
 use Rattle.tql_core.specs.declared.term.Var.{Var}
 use Rattle.tql_core.specs.Condition.{Condition, Always, Never, Plain, NowAtLeast, NowBefore, All, Either, Not, Exists}
@@ -14,7 +14,7 @@ use Rattle.time_marks.proofs.Envs.{bind_same, bind_other}
 use Rattle.access_plan.specs.Accesses.{is_other}
 use Rattle.access_plan.specs.Laws.{AreSame}
 use Rattle.probe_eval.specs.Open.{base_known, atom_known}
-use Rattle.probe_eval.specs.Work.{work, total}
+use Rattle.probe_eval.specs.Work.{work, exists_work}
 use Rattle.probe_eval.specs.Conjuncts.{mentions, fixed_part, own_part}
 use Rattle.probe_eval.proofs.OpenLaws.{value_is, atom_is}
 
@@ -162,28 +162,40 @@ module _ (T : Tables) (x : Condition) (v : Var) (env : Env) where
       → list_any whole_at rows ≡ list_any own_at left
   own_false rows left r e f o = own_decides rows r f ∙ ap (list_any own_at) e ∙ rw o refl
 
-  own_total : (rows : List Row)
-      → total (λ row. 1 + work T (own_part v x) (bind v row env)) rows ≤ total (λ row. 1 + work T x (bind v row env)) rows
-  own_total [] = omega arith
-  own_total (r ∷ rows) = let k = work_splits T v x (bind v r env) in let i = own_total rows in omega (arith, k, i)
+  -- its own conjuncts alone take no more steps than the whole, if the fixed ones are true
+  own_total : (rows : List Row) (r : Row) → fixed_at r ≡ true → exists_work T v (own_part v x) env rows ≤ exists_work T v x env rows
+  own_total [] r f = omega arith
+  own_total (q ∷ rows) r f =
+      let k = work_splits T v x (bind v q env) in
+      let i = own_total rows r f in
+      let w : whole_at q ≡ own_at q = whole_is true r q f in
+      elim (cases_Bool (own_at q)) [
+        | inl e ↦ rw (w ∙ e, e) (omega (arith, k))
+        | inr e ↦ rw (w ∙ e, e) (omega (arith, k, i))
+      ]
 
   -- the first row pays for the fixed conjuncts
-  pub later_steps : (s next fixed own now : ℕ) (rows left : List Row) (r : Row) → rows ≡ r ∷ left → next ≡ s + 1
-      → fixed ≤ next + work T (fixed_part v x) (bind v r env)
-      → own ≤ fixed + work T (own_part v x) (bind v r env) → now ≤ own + total (λ row. 1 + work T (own_part v x) (bind v row env)) left
-      → now ≤ s + total (λ row. 1 + work T x (bind v row env)) rows
-  later_steps s next fixed own now rows left r e n f o h =
+  pub later_steps : (s next fixed own now : ℕ) (rows left : List Row) (r : Row) → rows ≡ r ∷ left → fixed_at r ≡ true → own_at r ≡ false
+      → next ≡ s + 1
+      → fixed ≤ next + work T (fixed_part v x) (bind v r env) → own ≤ fixed + work T (own_part v x) (bind v r env)
+      → now ≤ own + exists_work T v (own_part v x) env left
+      → now ≤ s + exists_work T v x env rows
+  later_steps s next fixed own now rows left r e y z n f o h =
       let k = work_splits T v x (bind v r env) in
-      let i = own_total left in
-      let j : now ≤ s + total (λ row. 1 + work T x (bind v row env)) (r ∷ left) = omega (arith, n, f, o, h, k, i) in
-      subst (λ z. now ≤ s + total (λ row. 1 + work T x (bind v row env)) z) (sym e) j
+      let i = own_total left r y in
+      let w : whole_at r ≡ false = whole_is true r r y ∙ z in
+      let j : now ≤ s + exists_work T v x env (r ∷ left) = rw w (omega (arith, n, f, o, h, k, i)) in
+      subst (λ q. now ≤ s + exists_work T v x env q) (sym e) j
 
   pub own_steps : (s next fixed own : ℕ) (rows left : List Row) (r : Row) → rows ≡ r ∷ left → next ≡ s + 1
       → fixed ≤ next + work T (fixed_part v x) (bind v r env)
-      → own ≤ fixed + work T (own_part v x) (bind v r env) → own ≤ s + total (λ row. 1 + work T x (bind v row env)) rows
-  own_steps s next fixed own rows left r e n f o = later_steps s next fixed own own rows left r e n f o (omega arith)
+      → own ≤ fixed + work T (own_part v x) (bind v r env) → own ≤ s + exists_work T v x env rows
+  own_steps s next fixed own rows left r e n f o =
+      let k = work_splits T v x (bind v r env) in
+      let j : own ≤ s + exists_work T v x env (r ∷ left) = omega (arith, n, f, o, k) in
+      subst (λ q. own ≤ s + exists_work T v x env q) (sym e) j
 
   pub fixed_steps : (s next fixed : ℕ) (rows left : List Row) (r : Row) → rows ≡ r ∷ left → next ≡ s + 1
       → fixed ≤ next + work T (fixed_part v x) (bind v r env)
-      → fixed ≤ s + total (λ row. 1 + work T x (bind v row env)) rows
+      → fixed ≤ s + exists_work T v x env rows
   fixed_steps s next fixed rows left r e n f = own_steps s next fixed fixed rows left r e n f (omega arith)

@@ -30,9 +30,10 @@ use Rattle.access_plan.specs.declared.reach.Reach.{Reach}
 use Rattle.access_plan.specs.Accesses.{table_of}
 use Rattle.access_plan.specs.Orders.{driven}
 use Rattle.access_plan.specs.Laws.{order_vars, numbers_of, IsServed, IsOrder}
-use Rattle.probe_eval.specs.Work.{rows_by, total, work}
+use Rattle.probe_eval.specs.StepRows.{next_rows, step_access}
+use Rattle.probe_eval.specs.Work.{total, work}
 use Rattle.probe_eval.specs.Nested.{asked_cost, work_over}
-use Rattle.probe_eval.specs.Drivers.{seek_var, stored_rows, driving, walked, mark_in, marked_cost, cost_at, seek_cost}
+use Rattle.probe_eval.specs.Drivers.{seek_var, stored_rows, driving, walked, mark_in, marked_cost, cost_at, passed_cost}
 use Rattle.probe_eval.specs.Tables.{table_in}
 use Rattle.probe_eval.specs.Runs.{starts_of, HasNoMark, PathIsDocument, rows_due}
 use Rattle.probe_eval.proofs.Costs.{total_same, total_less, total_none, filter_same, filter_all, total_map, dated_total}
@@ -42,7 +43,7 @@ use Rattle.probe_eval.proofs.Founds.{ordered}
 use Rattle.probe_eval.proofs.RestLaws.{reach_rows}
 use Rattle.probe_eval.proofs.Nesting.{asked_table, further_is}
 use Rattle.probe_eval.proofs.WalkedLaws.{walked_in, walked_total}
-use Rattle.probe_eval.proofs.WalkRows.{rows_less}
+use Rattle.probe_eval.proofs.StepLaws.{step_table, next_less}
 use Rattle.access_plan.specs.Nearest.{IsNearest}
 use Rattle.access_plan.proofs.Nearests.{nearest_serves}
 use Rattle.probe_eval.specs.Rests.{further, cost_of, rest_of}
@@ -92,14 +93,14 @@ module _ (G : Row → ℕ) (w : Window) (T : Tables) where
   stored_total (ArrivedDay u n) e = arrived_total u _ (λ d. ap (λ (z : Var). driving_second (ArrivedDay z n) (asked_of d)) (some_same e))
   stored_total (DatedDay u n) e = dates_total u _ (λ d. ap (λ (z : Var). driving_second (DatedDay z n) (asked_of d)) (some_same e))
 
-module _ (T : Tables) (w : Window) (p : Probe) (order : List Reach) (k : IsProbe p) (o : IsOrder p.path p.at.base order)
-    (bounded : is_bounded p.at ≡ true) where
+module _ (passed : ℤ → Doc → Bool) (T : Tables) (w : Window) (p : Probe) (order : List Reach) (k : IsProbe p)
+    (o : IsOrder p.path p.at.base order) (bounded : is_bounded p.at ≡ true) where
   -- if nothing is marked there is no step
-  pub quiet_cost : (sv : Option Var) → seek_var (seek_of p.at) ≡ sv → HasNoMark T w p → seek_cost T w p order (seek_of p.at) sv ≡ 0
+  pub quiet_cost : (sv : Option Var) → seek_var (seek_of p.at) ≡ sv → HasNoMark T w p → passed_cost passed T w p order (seek_of p.at) sv ≡ 0
   quiet_cost None e q =
       let l : lies_in w (value p.at []) ≡ false = q [] (subst (λ z. In [] (starts_of T p z)) (sym e) (inl refl)) in
-      ap (marked_cost T w p order []) (no_mark w (value p.at []) l)
-  quiet_cost (Some v) e q = total_none (λ row. 1 + cost_at T w p order (bind v row [])) (walked T w p (seek_of p.at) v) (λ row i.
+      ap (marked_cost passed T w p order []) (no_mark w (value p.at []) l)
+  quiet_cost (Some v) e q = total_none (λ row. 1 + cost_at passed T w p order (bind v row [])) (walked T w p (seek_of p.at) v) (λ row i.
       let r = driven_are T w p v bounded e row (walked_in T w p (seek_of p.at) v row i) in
       let l : lies_in w (value p.at (bind v row [])) ≡ false = q (bind v row []) (subst (λ z. In (bind v row []) (starts_of T p z)) (sym e)
       (in_map (λ row. bind v row []) (rows_of (table_in p.path v.0) T) row r.0)) in
@@ -123,22 +124,23 @@ module _ (T : Tables) (w : Window) (p : Probe) (order : List Reach) (k : IsProbe
     var_is v e = ap (λ n. record { 0 = n }) e
 
     -- a document that has its row costs the work of the body
-    pair_less : (b : ℤ) (env : Env) → work_over T p b false [] env ≤ work T p.body env
+    pair_less : (b : ℤ) (env : Env) → work_over (passed b) T p b false [] env ≤ work T p.body env
     pair_less b env = go (lookup 0 env)
       where
-        or_none : (c : Bool) (n : ℕ) → 0 + (if c then n else 0) ≤ n
-        or_none true n = omega arith
-        or_none false n = omega arith
+        or_none : (q c : Bool) (n : ℕ) → (if q then 0 else 0 + (if c then n else 0)) ≤ n
+        or_none true c n = omega arith
+        or_none false true n = omega arith
+        or_none false false n = omega arith
 
-        go : (o : Option Row) → asked_cost T p b false [] env o 0 ≤ work T p.body env
+        go : (o : Option Row) → asked_cost (passed b) T p b false [] env o 0 ≤ work T p.body env
         go None = omega arith
-        go (Some (OfDoc d)) = or_none (rest_of T p.path b [] env) (work T p.body env)
+        go (Some (OfDoc d)) = or_none (passed b d) (rest_of T p.path b [] env) (work T p.body env)
         go (Some (OfNote n)) = omega arith
 
-    cost_less : (env : Env) → cost_at T w p [] env ≤ work T p.body env
+    cost_less : (env : Env) → cost_at passed T w p [] env ≤ work T p.body env
     cost_less env = go (mark_in w (value p.at env))
       where
-        go : (o : Option ℤ) → marked_cost T w p [] env o ≤ work T p.body env
+        go : (o : Option ℤ) → marked_cost passed T w p [] env o ≤ work T p.body env
         go None = omega arith
         go (Some b) = pair_less b env
 
@@ -148,12 +150,12 @@ module _ (T : Tables) (w : Window) (p : Probe) (order : List Reach) (k : IsProbe
     abbrev due : (d : Doc) → ℕ
     due d = 1 + work T p.body (asked_of d)
 
-    driven_due : (v : Var) → seek_var (seek_of p.at) ≡ Some v → seek_cost T w p order (seek_of p.at) (Some v) ≤ rows_due T w p
+    driven_due : (v : Var) → seek_var (seek_of p.at) ≡ Some v → passed_cost passed T w p order (seek_of p.at) (Some v) ≤ rows_due T w p
     driven_due v e =
-        let a = walked_total T w p (seek_of p.at) v (λ row. 1 + cost_at T w p order (bind v row [])) in
-        let b : total (λ row. 1 + cost_at T w p order (bind v row [])) (driving T w p (seek_of p.at) v) ≤ rows_due T w p =
-        subst (λ z. total (λ row. 1 + cost_at T w p order (bind z row [])) (driving T w p (seek_of p.at) z) ≤ rows_due T w p) (sym v_is)
-        by_m in
+        let a = walked_total T w p (seek_of p.at) v (λ row. 1 + cost_at passed T w p order (bind v row [])) in
+        let b : total (λ row. 1 + cost_at passed T w p order (bind v row [])) (driving T w p (seek_of p.at) v) ≤ rows_due T w p =
+        subst (λ z. total (λ row. 1 + cost_at passed T w p order (bind z row [])) (driving T w p (seek_of p.at) z) ≤ rows_due T w p)
+        (sym v_is) by_m in
         omega (arith, a, b)
       where
         v_in : In v.0 (numbers_of (driven p.at.base))
@@ -175,14 +177,14 @@ module _ (T : Tables) (w : Window) (p : Probe) (order : List Reach) (k : IsProbe
         e_m : seek_var (seek_of p.at) ≡ Some document_var
         e_m = e ∙ ap Some v_is
 
-        less : total (λ row. 1 + cost_at T w p order (bind document_var row [])) (driving T w p (seek_of p.at) document_var)
+        less : total (λ row. 1 + cost_at passed T w p order (bind document_var row [])) (driving T w p (seek_of p.at) document_var)
             ≤ total (λ row. 1 + work T p.body (bind document_var row [])) (driving T w p (seek_of p.at) document_var)
         less = total_less _ _ (driving T w p (seek_of p.at) document_var) (λ row.
-            one row (subst (λ z. cost_at T w p z (bind document_var row []) ≤ work T p.body (bind document_var row []))
+            one row (subst (λ z. cost_at passed T w p z (bind document_var row []) ≤ work T p.body (bind document_var row []))
             (sym (no_order order refl)) (cost_less (bind document_var row []))))
           where
-            one : (row : Row) → cost_at T w p order (bind document_var row []) ≤ work T p.body (bind document_var row [])
-                → 1 + cost_at T w p order (bind document_var row []) ≤ 1 + work T p.body (bind document_var row [])
+            one : (row : Row) → cost_at passed T w p order (bind document_var row []) ≤ work T p.body (bind document_var row [])
+                → 1 + cost_at passed T w p order (bind document_var row []) ≤ 1 + work T p.body (bind document_var row [])
             one row h = omega (arith, h)
 
         same : total (λ row. 1 + work T p.body (bind document_var row [])) (driving T w p (seek_of p.at) document_var) ≡ rows_due T w p
@@ -193,13 +195,12 @@ module _ (T : Tables) (w : Window) (p : Probe) (order : List Reach) (k : IsProbe
             ∙ ap (total due) (filter_same (λ d. lies_in (seek_window w (seek_of p.at)) (driving_second (seek_of p.at) (asked_of d)))
             (λ d. lies_in w (value p.at (asked_of d))) T.docs (λ d. sym (solved p.at w (asked_of d) bounded)))
 
-        by_m : total (λ row. 1 + cost_at T w p order (bind document_var row [])) (driving T w p (seek_of p.at) document_var)
+        by_m : total (λ row. 1 + cost_at passed T w p order (bind document_var row [])) (driving T w p (seek_of p.at) document_var)
             ≤ rows_due T w p
-        by_m =
-            subst (λ z. total (λ row. 1 + cost_at T w p order (bind document_var row [])) (driving T w p (seek_of p.at) document_var) ≤ z)
-            same less
+        by_m = subst (λ z. total (λ row. 1 + cost_at passed T w p order (bind document_var row []))
+            (driving T w p (seek_of p.at) document_var) ≤ z) same less
 
-    fixed_due : seek_var (seek_of p.at) ≡ None → seek_cost T w p order (seek_of p.at) None ≤ rows_due T w p
+    fixed_due : seek_var (seek_of p.at) ≡ None → passed_cost passed T w p order (seek_of p.at) None ≤ rows_due T w p
     fixed_due e = go (mark_in w (value p.at [])) refl
       where
         none_driven : driven p.at.base ≡ []
@@ -220,9 +221,9 @@ module _ (T : Tables) (w : Window) (p : Probe) (order : List Reach) (k : IsProbe
             (λ j z. absurd (subst (λ vs. In j (numbers_of vs)) none_driven z)) p.at (base_driven p.at.base)) ∙ l)
 
         walk : (b : ℤ) (rs : List Reach) (bound : List Var) → IsServed p.path bound rs → Distinct (order_vars rs) → In 0 (order_vars rs)
-            → work_over T p b false rs [] ≤ total due T.docs
+            → work_over (passed b) T p b false rs [] ≤ total due T.docs
         walk b [] bound s u i = absurd i
-        walk b (r ∷ rs) bound s u i = subst (λ z. work_over T p b false (r ∷ z) [] ≤ total due T.docs) (sym (alone rs s.2 u)) one
+        walk b (r ∷ rs) bound s u i = subst (λ z. work_over (passed b) T p b false (r ∷ z) [] ≤ total due T.docs) (sym (alone rs s.2 u)) one
           where
             r_zero : r.var.0 ≡ 0
             r_zero = is_asked r.var.0 (ordered p.path (r ∷ rs) bound s r.var.0 (inl refl))
@@ -233,21 +234,23 @@ module _ (T : Tables) (w : Window) (p : Probe) (order : List Reach) (k : IsProbe
                 let z = is_asked x.var.0 (ordered p.path (x ∷ xs) (bound ++ r.var ∷ []) s x.var.0 (inl refl)) in
                 absurd (u.0 (inl (r_zero ∙ sym z)))
 
-            one : work_over T p b false (r ∷ []) [] ≤ total due T.docs
+            one : work_over (passed b) T p b false (r ∷ []) [] ≤ total due T.docs
             one = go (further p.path b []) refl
               where
                 go : (o : Option Reach) → further p.path b [] ≡ o → cost_of o
-                    (λ x. 0 + total (λ row. 1 + work_over T p b false [] (bind x.var row [])) (rows_by b x.access [] T)) ≤ total due T.docs
+                    (λ x. 0 + total (λ row. 1 + work_over (passed b) T p b false [] (bind x.var row [])) (next_rows T p.path b [] x))
+                    ≤ total due T.docs
                 go None e = omega arith
                 go (Some x) e = plain _ _ (next x (nearest_serves p.path [] x (further_is p.path b [] x e).1))
                   where
                     plain : (n m : ℕ) → n ≤ m → 0 + n ≤ m
                     plain n m h = omega (arith, h)
 
-                    next : (x : Reach) → IsNearest p.path [] x
-                        → total (λ row. 1 + work_over T p b false [] (bind x.var row [])) (rows_by b x.access [] T) ≤ total due T.docs
-                    next x near = subst (λ z. total (λ row. 1 + work_over T p b false [] (bind x.var row [])) (rows_by b x.access [] T) ≤ z)
-                        all (trans (rows_less _ b x.access T) (total_less _ _ (rows_of (table_of x.access) T) each))
+                    next : (x : Reach) → IsNearest p.path [] x → total (λ row. 1 + work_over (passed b) T p b false [] (bind x.var row []))
+                        (next_rows T p.path b [] x) ≤ total due T.docs
+                    next x near = subst
+                        (λ z. total (λ row. 1 + work_over (passed b) T p b false [] (bind x.var row [])) (next_rows T p.path b [] x) ≤ z)
+                        all (trans (next_less _ T p.path b x) (total_less _ _ (rows_of (table_of (step_access T p.path [] x)) T) each))
                       where
                         x_zero : x.var.0 ≡ 0
                         x_zero = is_asked x.var.0 (subst (λ (v : Var). In v.0 (vars_of p.path)) (sym near.var)
@@ -256,27 +259,29 @@ module _ (T : Tables) (w : Window) (p : Probe) (order : List Reach) (k : IsProbe
                         plus : (a b : ℕ) → a ≤ b → 1 + a ≤ 1 + b
                         plus a b h = omega (arith, h)
 
-                        each : (row : Row) → 1 + work_over T p b false [] (bind x.var row []) ≤ 1 + work T p.body (bind x.var row [])
+                        each : (row : Row)
+                            → 1 + work_over (passed b) T p b false [] (bind x.var row []) ≤ 1 + work T p.body (bind x.var row [])
                         each row = plus _ _ (pair_less b (bind x.var row []))
 
                         trans : {a b c : ℕ} → a ≤ b → b ≤ c → a ≤ c
                         trans h k = omega (arith, h, k)
 
-                        all : total (λ row. 1 + work T p.body (bind x.var row [])) (rows_of (table_of x.access) T) ≡ total due T.docs
+                        all : total (λ row. 1 + work T p.body (bind x.var row [])) (rows_of (table_of (step_access T p.path [] x)) T)
+                            ≡ total due T.docs
                         all =
-                            ap (λ t. total (λ row. 1 + work T p.body (bind x.var row [])) (rows_of t T))
-                            (reach_rows T p.path b k.once [] x near ∙ ap (table_in p.path) x_zero ∙ asked_table p k)
+                            ap (λ t. total (λ row. 1 + work T p.body (bind x.var row [])) (rows_of t T)) (step_table T p.path [] x near
+                            ∙ reach_rows T p.path b k.once [] x near ∙ ap (table_in p.path) x_zero ∙ asked_table p k)
                             ∙ total_map (λ row. 1 + work T p.body (bind x.var row [])) OfDoc T.docs
                             ∙ total_same _ _ T.docs (λ d. ap (λ (v : Var). 1 + work T p.body (bind v (OfDoc d) [])) (var_is x.var x_zero))
 
-        go : (x : Option ℤ) → mark_in w (value p.at []) ≡ x → marked_cost T w p order [] x ≤ rows_due T w p
+        go : (x : Option ℤ) → mark_in w (value p.at []) ≡ x → marked_cost passed T w p order [] x ≤ rows_due T w p
         go None q = omega arith
         go (Some b) q =
             let l = mark_lies w (value p.at []) b q in
-            subst (λ z. work_over T p b false order [] ≤ total due z) (sym (every b l.0 l.1))
+            subst (λ z. work_over (passed b) T p b false order [] ≤ total due z) (sym (every b l.0 l.1))
             (walk b order (driven p.at.base) o.served once bound_zero)
 
     -- a path of the document alone takes no more steps than its marked documents are due
-    pub alone_cost : (sv : Option Var) → seek_var (seek_of p.at) ≡ sv → seek_cost T w p order (seek_of p.at) sv ≤ rows_due T w p
+    pub alone_cost : (sv : Option Var) → seek_var (seek_of p.at) ≡ sv → passed_cost passed T w p order (seek_of p.at) sv ≤ rows_due T w p
     alone_cost None e = fixed_due e
     alone_cost (Some v) e = driven_due v e

@@ -5,6 +5,7 @@ use Rattle.std.specs.Prelude.{◌&&◌, ◌||◌, option_to_list}
 use Rattle.std.specs.List.{list_any, flat_map}
 use Rattle.std.proofs.lemmas.Bool.{and_parts, eqb-true}
 use Rattle.tap_base.specs.declared.numbers.DocNum.{DocNum}
+use Rattle.tap_rows.specs.declared.rows.Doc.{Doc}
 use Rattle.tap_rows.specs.declared.tables.Tables.{Tables}
 use Rattle.tap_rows.specs.declared.results.Entry.{Entry}
 use Rattle.tql_core.specs.declared.term.Var.{Var}
@@ -16,7 +17,8 @@ use Rattle.time_marks.proofs.Envs.{bind_same}
 use Rattle.access_plan.specs.declared.reach.Reach.{Reach}
 use Rattle.access_plan.specs.Nearest.{nearest}
 use Rattle.probe_eval.specs.Open.{path_apart}
-use Rattle.probe_eval.specs.Work.{rows_by, total}
+use Rattle.probe_eval.specs.StepRows.{next_rows}
+use Rattle.probe_eval.specs.Work.{total}
 use Rattle.probe_eval.specs.Rests.{all_or, further, rest_of, rest_cost}
 use Rattle.probe_eval.specs.Nested.{new_doc, hit_if, over_rows, holds_here, asked_or, hits_over, has_more, is_once, is_walked, once_cost}
 use Rattle.probe_eval.specs.Nested.{work_over}
@@ -40,12 +42,12 @@ none_first false c h = (refl, h)
 module _ (T : Tables) (p : Probe) (b : ℤ) where
   -- the rest beside env is that beside some row of the next step
   rest_next : (x : Reach) (rs : List Reach) (env : Env) (r : Reach) → further p.path b env ≡ Some r
-      → rest_of T p.path b (x ∷ rs) env ≡ list_any (λ row. rest_of T p.path b rs (bind r.var row env)) (rows_by b r.access env T)
+      → rest_of T p.path b (x ∷ rs) env ≡ list_any (λ row. rest_of T p.path b rs (bind r.var row env)) (next_rows T p.path b env r)
   rest_next x rs env r f =
       let k = further_is p.path b env r f in
-      ap (λ m. m
-      && all_or (nearest p.path env) (λ r. list_any (λ row. rest_of T p.path b rs (bind r.var row env)) (rows_by b r.access env T))) k.0
-      ∙ ap (λ o. all_or o (λ r. list_any (λ row. rest_of T p.path b rs (bind r.var row env)) (rows_by b r.access env T))) k.1
+      ap (λ m. m && all_or (nearest p.path env)
+      (λ r. list_any (λ row. rest_of T p.path b rs (bind r.var row env)) (next_rows T p.path b env r))) k.0
+      ∙ ap (λ o. all_or o (λ r. list_any (λ row. rest_of T p.path b rs (bind r.var row env)) (next_rows T p.path b env r))) k.1
 
   is_apart_once : (env : Env) (rs : List Reach) (v : Var) → is_once p.path env rs v ≡ true → (v.0 ≡ 0) × (path_apart p.path env v ≡ true)
   is_apart_once env rs v h =
@@ -60,7 +62,7 @@ module _ (T : Tables) (p : Probe) (b : ℤ) where
   sure_below once x rs env r f o w row s g =
       let a = is_apart_once env rs r.var (sym o ∙ s) in
       let h : rest_of T p.path b (x ∷ rs) env ≡ true = subst (λ z. is_walked T p b z (x ∷ rs) env ≡ true) s w in
-      each_beside T p.path b env r.var a.1 rs (rows_by b r.access env T) (sym (rest_next x rs env r f) ∙ h) row g
+      each_beside T p.path b env r.var a.1 rs (next_rows T p.path b env r) (sym (rest_next x rs env r f) ∙ h) row g
 
   walked_cost : (a walk : ℕ) (c : Bool) → c ≡ true → (a + (if c then 0 else 0)) + walk ≡ a + (if c then walk else 0)
   walked_cost a walk c h = rw h (omega arith)
@@ -70,42 +72,42 @@ module _ (T : Tables) (p : Probe) (b : ℤ) where
   less_cost a walk false = omega arith
 
   -- the rows that are walked are paid for
-  pub level_paid : (s now : ℕ) (once sure : Bool) (order : List Reach) (x : Reach) (rs : List Reach) (env : Env) (r : Reach)
-      → order ≡ x ∷ rs → lookup 0 env ≡ None → further p.path b env ≡ Some r → once ≡ is_once p.path env rs r.var
+  pub level_paid : (passed : Doc → Bool) (s now : ℕ) (once sure : Bool) (order : List Reach) (x : Reach) (rs : List Reach) (env : Env)
+      (r : Reach) → order ≡ x ∷ rs → lookup 0 env ≡ None → further p.path b env ≡ Some r → once ≡ is_once p.path env rs r.var
       → is_walked T p b once order env ≡ true → now ≤ s + once_cost T p b once order env 0
-      → now + total (λ row. 1 + work_over T p b once rs (bind r.var row env)) (rows_by b r.access env T)
-      ≤ s + work_over T p b sure order env
-  level_paid s now once sure order x rs env r q e f o w h =
-      let walk = total (λ row. 1 + work_over T p b once rs (bind r.var row env)) (rows_by b r.access env T) in
-      let c : work_over T p b sure order env ≡ once_cost T p b once order env walk =
-      ap (λ z. work_over T p b sure z env) q ∙ next_cost T p b sure x rs env r e f
-      ∙ ap (λ z. once_cost T p b z (x ∷ rs) env (total (λ row. 1 + work_over T p b z rs (bind r.var row env)) (rows_by b r.access env T)))
-      (sym o)
+      → now + total (λ row. 1 + work_over passed T p b once rs (bind r.var row env)) (next_rows T p.path b env r)
+      ≤ s + work_over passed T p b sure order env
+  level_paid passed s now once sure order x rs env r q e f o w h =
+      let walk = total (λ row. 1 + work_over passed T p b once rs (bind r.var row env)) (next_rows T p.path b env r) in
+      let c : work_over passed T p b sure order env ≡ once_cost T p b once order env walk =
+      ap (λ z. work_over passed T p b sure z env) q ∙ next_cost passed T p b sure x rs env r e f
+      ∙ ap (λ z. once_cost T p b z (x ∷ rs) env
+      (total (λ row. 1 + work_over passed T p b z rs (bind r.var row env)) (next_rows T p.path b env r))) (sym o)
       ∙ ap (λ z. once_cost T p b once z env walk) (sym q) in
       let k : once_cost T p b once order env 0 + walk ≡ once_cost T p b once order env walk =
       walked_cost (if once then rest_cost T p.path b order env else 0) walk (is_walked T p b once order env) w in
       omega (arith, h, c, k)
 
   -- and the search before, if they aren't walked
-  pub once_paid : (s now : ℕ) (once sure : Bool) (order : List Reach) (x : Reach) (rs : List Reach) (env : Env) (r : Reach) → order ≡ x ∷ rs
-      → lookup 0 env ≡ None → further p.path b env ≡ Some r → once ≡ is_once p.path env rs r.var
-      → now ≤ s + once_cost T p b once order env 0 → now + 0 ≤ s + work_over T p b sure order env
-  once_paid s now once sure order x rs env r q e f o h =
-      let walk = total (λ row. 1 + work_over T p b once rs (bind r.var row env)) (rows_by b r.access env T) in
-      let c : work_over T p b sure order env ≡ once_cost T p b once order env walk =
-      ap (λ z. work_over T p b sure z env) q ∙ next_cost T p b sure x rs env r e f
-      ∙ ap (λ z. once_cost T p b z (x ∷ rs) env (total (λ row. 1 + work_over T p b z rs (bind r.var row env)) (rows_by b r.access env T)))
-      (sym o)
+  pub once_paid : (passed : Doc → Bool) (s now : ℕ) (once sure : Bool) (order : List Reach) (x : Reach) (rs : List Reach) (env : Env)
+      (r : Reach) → order ≡ x ∷ rs → lookup 0 env ≡ None → further p.path b env ≡ Some r → once ≡ is_once p.path env rs r.var
+      → now ≤ s + once_cost T p b once order env 0 → now + 0 ≤ s + work_over passed T p b sure order env
+  once_paid passed s now once sure order x rs env r q e f o h =
+      let walk = total (λ row. 1 + work_over passed T p b once rs (bind r.var row env)) (next_rows T p.path b env r) in
+      let c : work_over passed T p b sure order env ≡ once_cost T p b once order env walk =
+      ap (λ z. work_over passed T p b sure z env) q ∙ next_cost passed T p b sure x rs env r e f
+      ∙ ap (λ z. once_cost T p b z (x ∷ rs) env
+      (total (λ row. 1 + work_over passed T p b z rs (bind r.var row env)) (next_rows T p.path b env r))) (sym o)
       ∙ ap (λ z. once_cost T p b once z env walk) (sym q) in
       let k : once_cost T p b once order env 0 ≤ once_cost T p b once order env walk =
       less_cost (if once then rest_cost T p.path b order env else 0) walk (is_walked T p b once order env) in
       omega (arith, h, c, k)
 
-pub level_steps : (T : Tables) (p : Probe) (b : ℤ) (env : Env) (level : Level) (rows : List Row) (s bound : ℕ)
-    → rows ≡ rows_at T b env level → s + level_cost T p b env (Some level) ≤ bound
-    → s + total (λ row. 1 + work_over T p b level.sure level.rest.now (bind level.reach.var row env)) rows ≤ bound
-level_steps T p b env level rows s bound q h =
-    subst (λ z. s + total (λ row. 1 + work_over T p b level.sure level.rest.now (bind level.reach.var row env)) z ≤ bound) (sym q) h
+pub level_steps : (passed : Doc → Bool) (T : Tables) (p : Probe) (b : ℤ) (env : Env) (level : Level) (rows : List Row) (s bound : ℕ)
+    → rows ≡ rows_at T p.path b env level → s + level_cost passed T p b env (Some level) ≤ bound
+    → s + total (λ row. 1 + work_over passed T p b level.sure level.rest.now (bind level.reach.var row env)) rows ≤ bound
+level_steps passed T p b env level rows s bound q h =
+    subst (λ z. s + total (λ row. 1 + work_over passed T p b level.sure level.rest.now (bind level.reach.var row env)) z ≤ bound) (sym q) h
 
 module _ (entries : List Entry) (T : Tables) (p : Probe) (b : ℤ) where
   -- if no step is left, there is no hit beside rows without the document
@@ -117,8 +119,8 @@ module _ (entries : List Entry) (T : Tables) (p : Probe) (b : ℤ) where
   none_next order x rs env q e f =
       ap (λ z. hits_over entries T p b z env) q
       ∙ ap (λ o. asked_or entries T p b (x ∷ rs) env o
-      (over_rows T b env (further p.path b env) (λ r row. hits_over entries T p b rs (bind r.var row env)))) e
-      ∙ ap (λ o. over_rows T b env o (λ r row. hits_over entries T p b rs (bind r.var row env))) f
+      (over_rows T p.path b env (further p.path b env) (λ r row. hits_over entries T p b rs (bind r.var row env)))) e
+      ∙ ap (λ o. over_rows T p.path b env o (λ r row. hits_over entries T p b rs (bind r.var row env))) f
 
   -- a document without a rest has no hit
   no_rest : (rs : List Reach) (env : Env) (v : Var) (row : Row) → v.0 ≡ 0 → rest_of T p.path b rs (bind v row env) ≡ false
@@ -149,7 +151,7 @@ module _ (entries : List Entry) (T : Tables) (p : Probe) (b : ℤ) where
       let y : once ≡ true = was_true once k.0 in
       let a = is_apart_once T p b env rs r.var (sym o ∙ y) in
       ap (λ z. hits_over entries T p b z env) q ∙ next_hits entries T p b x rs env r e f
-      ∙ no_rests rs env r.var (rows_by b r.access env T)
+      ∙ no_rests rs env r.var (next_rows T p.path b env r)
       a.0 (sym (rest_next T p b x rs env r f) ∙ ap (λ z. rest_of T p.path b z env) (sym q) ∙ k.1)
     where
       was_true : (c : Bool) → not c ≡ false → c ≡ true

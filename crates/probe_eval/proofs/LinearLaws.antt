@@ -1,43 +1,30 @@
 -- Where each row is found by an index, the bound is linear in the rows that are due.
 use Rattle.std.proofs.Common.{◌≡◌, ◌∙◌, ℕ, zero, suc, ◌+◌, ◌*◌, ◌≤◌, ℤ, Bool, true, false, Option, Some, None, List, [], ◌∷◌, length, refl}
 use Rattle.std.proofs.Common.{sym, ap, subst, inl, inr, arith, if◌then◌else◌}
-use Rattle.std.specs.Prelude.{◌⊎◌, unwrap_or, option_map, filter}
-use Rattle.std.specs.Option.{option_or}
+use Rattle.std.specs.Prelude.{◌⊎◌, ◌&&◌, nat_eq, nat_le}
 use Rattle.std.proofs.lemmas.Bool.{cases_Bool, false≢true}
-use Rattle.tap_base.specs.declared.numbers.Op.TheVariants.{Eq}
+use Rattle.tap_rows.specs.declared.rows.Doc.{Doc}
 use Rattle.tap_rows.specs.declared.tables.Tables.{Tables}
 use Rattle.tap_rows.specs.Kept.{In}
-use Rattle.tql_tree.specs.declared.table.Table.TheVariants.{Docs}
 use Rattle.tql_core.specs.declared.term.Var.{Var}
-use Rattle.tql_core.specs.declared.atom.Atom.{Atom}
-use Rattle.tql_core.specs.declared.atom.Atom.TheVariants.{Texts}
-use Rattle.tql_core.specs.declared.atom.TextExpr.TheVariants.{Field}
-use Rattle.tql_core.specs.declared.atom.TextField.TheVariants.{MsgId, InReplyTo}
 use Rattle.tql_core.specs.Row.{Row, OfDoc, OfNote, rows_of}
-use Rattle.tql_core.specs.Scope.{AtomIn}
-use Rattle.tql_core.specs.Values.{Env, bind, lookup, value, text, text_field, both_texts}
+use Rattle.tql_core.specs.Values.{Env, bind, lookup, value}
 use Rattle.time_marks.specs.declared.mark.Step.{Step}
-use Rattle.time_marks.specs.Found.{vars_of, IsProbe}
-use Rattle.time_marks.specs.Marks.{document_var}
+use Rattle.time_marks.specs.Found.{IsProbe, higher}
 use Rattle.time_marks.specs.Probes.{Probe}
 use Rattle.time_marks.specs.Seeks.{seek_of}
 use Rattle.time_marks.proofs.Envs.{bind_same}
-use Rattle.access_plan.specs.declared.access.Access.{Access}
-use Rattle.access_plan.specs.declared.access.Access.TheVariants.{ByMsgId}
 use Rattle.access_plan.specs.declared.reach.Reach.{Reach}
-use Rattle.access_plan.specs.declared.kind.AccessKind.TheVariants as K
-use Rattle.access_plan.specs.Accesses.{is_held, whole, first_some}
-use Rattle.access_plan.specs.Nearest.{kind_access, near, IsNearest}
-use Rattle.access_plan.specs.Orders.{order_of}
+use Rattle.access_plan.specs.Accesses.{is_held}
 use Rattle.access_plan.proofs.Nearests.{nearest_serves}
 use Rattle.probe_eval.specs.Drivers.{walked, mark_in, marked_cost, cost_at}
-use Rattle.probe_eval.specs.Linear.{HasShortAccesses, HasShortBody, rest_bound, path_bound, ProbesByIndexAreLinear, reply_var, reply_probe}
-use Rattle.probe_eval.specs.Linear.{HasDistinctIds, RepliesTakeThreeSteps}
-use Rattle.probe_eval.specs.Nested.{cost_here, asked_cost, is_once, is_walked, once_cost, work_over}
-use Rattle.probe_eval.specs.Rests.{InTables, further, cost_of, until, decides, rest_of, rest_cost}
+use Rattle.probe_eval.specs.Linear.{HasShortAccesses, HasShortBody, rest_bound, once_bound, path_bound, ProbesByIndexAreLinear}
+use Rattle.probe_eval.specs.Nested.{was_seen, has_more, cost_here, asked_cost, is_once, is_walked, once_cost, work_over}
+use Rattle.probe_eval.specs.Open.{path_apart}
+use Rattle.probe_eval.specs.Rests.{InTables, further, cost_of, decides, rest_of, rest_cost}
 use Rattle.probe_eval.specs.Tables.{table_in}
-use Rattle.probe_eval.specs.Work.{rows_by, total, work}
-use Rattle.probe_eval.proofs.AccessLists.{no_text}
+use Rattle.probe_eval.specs.StepRows.{next_rows}
+use Rattle.probe_eval.specs.Work.{total, until, work}
 use Rattle.probe_eval.proofs.DriverLaws.{driven_are}
 use Rattle.probe_eval.proofs.Nesting.{further_is}
 use Rattle.probe_eval.proofs.OpenLaws.{held_same, held_more, held_was}
@@ -93,27 +80,47 @@ parts_less true false x y X Y h k = omega (arith, h, k)
 parts_less false true x y X Y h k = omega (arith, h, k)
 parts_less false false x y X Y h k = omega (arith, h, k)
 
-both_less : (c d : Bool) (x y X Y : ℕ) → x ≤ X → y ≤ Y → (if c then x else 0) + (if d then y else 0) ≤ X + Y
-both_less true true x y X Y h k = omega (arith, h, k)
-both_less true false x y X Y h k = omega (arith, h, k)
-both_less false true x y X Y h k = omega (arith, h, k)
-both_less false false x y X Y h k = omega (arith, h, k)
+passed_less : (c : Bool) (a m : ℕ) → a ≤ m → (if c then 0 else a) ≤ m
+passed_less true a m h = omega arith
+passed_less false a m h = h
 
 none_more : (a m : ℕ) → a ≤ 0 + m → a ≤ m
 none_more a m h = omega (arith, h)
 
-add_left : (a x y : ℕ) → a ≤ x → a ≤ x + y
-add_left a x y h = omega (arith, h)
+higher_left : (a b : ℕ) → a ≤ higher a b
+higher_left a b = go (nat_le a b) refl
+  where
+    go : (c : Bool) → nat_le a b ≡ c → a ≤ (if c then b else a)
+    go true e = grind arith
+    go false e = omega arith
 
-with_middle : (a r m x : ℕ) → a ≤ r + x → a ≤ r + m + x
-with_middle a r m x h = omega (arith, h)
+higher_right : (a b : ℕ) → b ≤ higher a b
+higher_right a b = go (nat_le a b) refl
+  where
+    go : (c : Bool) → nat_le a b ≡ c → b ≤ (if c then b else a)
+    go true e = omega arith
+    go false e = grind arith
 
-module _ (T : Tables) (p : Probe) (v : Var) (n m : ℕ) (k : IsProbe p) (short : HasShortAccesses T p.path v n) (body : HasShortBody T p m)
-    (b : ℤ) where
+sum_less : (d : Bool) (a y A Y : ℕ) → a ≤ A → y ≤ Y → a + (if d then y else 0) ≤ A + Y
+sum_less true a y A Y h k = omega (arith, h, k)
+sum_less false a y A Y h k = omega (arith, h, k)
+
+if_less : (c : Bool) (a m : ℕ) → a ≤ m → (if c then a else 0) ≤ m
+if_less true a m h = h
+if_less false a m h = omega arith
+
+-- the search before a level, which isn't made if no rows are left below it
+once_less : (n : ℕ) (rs : List Reach) (c d : Bool) (a : ℕ) → a ≤ rest_bound n (suc (length rs))
+    → (if (has_more rs && c) && d then a else 0) ≤ once_bound n (length rs)
+once_less n [] c d a h = omega arith
+once_less n (r ∷ rs) c d a h = if_less (c && d) a _ h
+
+module _ (passed : Doc → Bool) (T : Tables) (p : Probe) (v : Var) (n m : ℕ) (k : IsProbe p) (short : HasShortAccesses T p.path v n)
+    (body : HasShortBody T p m) (b : ℤ) where
   -- the rows of a next step
   next_less : (env : Env) (r : Reach) (f : Row → ℕ) (c : ℕ) (rows : List Row) → InTables T p.path env → is_held env v.0 ≡ true
-      → further p.path b env ≡ Some r → length rows ≤ length (rows_by b r.access env T)
-      → ((row : Row) → In row rows → In row (rows_by b r.access env T))
+      → further p.path b env ≡ Some r → length rows ≤ length (next_rows T p.path b env r)
+      → ((row : Row) → In row rows → In row (next_rows T p.path b env r))
       → ((row : Row) → InTables T p.path (bind r.var row env) → is_held (bind r.var row env) v.0 ≡ true → f row ≤ c)
       → total (λ row. 1 + f row) rows ≤ n * (1 + c)
   next_less env r f c rows t h e few same each =
@@ -132,11 +139,11 @@ module _ (T : Tables) (p : Probe) (v : Var) (n m : ℕ) (k : IsProbe p) (short :
       go : ((e : Env) → InTables T p.path e → is_held e v.0 ≡ true → rest_cost T p.path b rs e ≤ rest_bound n (length rs))
           → (o : Option Reach) → further p.path b env ≡ o
           → cost_of o (λ r. total (λ row. 1 + rest_cost T p.path b rs (bind r.var row env))
-          (until (decides T p.path b rs env r.var) (rows_by b r.access env T))) ≤ n * (1 + rest_bound n (length rs))
+          (until (decides T p.path b rs env r.var) (next_rows T p.path b env r))) ≤ n * (1 + rest_bound n (length rs))
       go more None e = omega arith
       go more (Some r) e =
           let f = decides T p.path b rs env r.var in
-          let rows = rows_by b r.access env T in
+          let rows = next_rows T p.path b env r in
           next_less env r (λ row. rest_cost T p.path b rs (bind r.var row env)) (rest_bound n (length rs)) (until f rows) t h e
           (until_less f rows) (λ row i. in_until f rows row i) (λ row s g. more (bind r.var row env) s g)
 
@@ -147,39 +154,42 @@ module _ (T : Tables) (p : Probe) (v : Var) (n m : ℕ) (k : IsProbe p) (short :
       (rest_less order env t h) (body env t)
 
   walk_less : (sure : Bool) (order : List Reach) (env : Env) → InTables T p.path env → is_held env v.0 ≡ true
-      → work_over T p b sure order env ≤ path_bound n m (length order)
+      → work_over passed T p b sure order env ≤ path_bound n m (length order)
   walk_less sure [] env t h = go (lookup 0 env)
     where
-      go : (o : Option Row) → asked_cost T p b sure [] env o 0 ≤ m
+      go : (o : Option Row) → asked_cost passed T p b sure [] env o 0 ≤ m
       go None = omega arith
-      go (Some (OfDoc d)) = none_more _ m (here_less sure [] env t h)
+      go (Some (OfDoc d)) = passed_less (passed d) _ m (none_more _ m (here_less sure [] env t h))
       go (Some (OfNote d)) = omega arith
   walk_less sure (x ∷ rs) env t h = go (λ s e. walk_less s rs e) (lookup 0 env)
     where
       More : Type 0
-      More = (s : Bool) (e : Env) → InTables T p.path e → is_held e v.0 ≡ true → work_over T p b s rs e ≤ path_bound n m (length rs)
+      More = (s : Bool) (e : Env) → InTables T p.path e → is_held e v.0 ≡ true → work_over passed T p b s rs e ≤ path_bound n m (length rs)
 
       next : More → (o : Option Reach) → further p.path b env ≡ o
-          → cost_of o (λ r. once_cost T p b (is_once p.path env rs r.var) (x ∷ rs) env
-          (total (λ row. 1 + work_over T p b (is_once p.path env rs r.var) rs (bind r.var row env)) (rows_by b r.access env T)))
-          ≤ path_bound n m (suc (length rs))
+          → cost_of o (λ r. once_cost T p b (is_once p.path env rs r.var) (x ∷ rs) env (total (λ row. 1 + work_over passed T p b
+          (is_once p.path env rs r.var) rs (bind r.var row env)) (next_rows T p.path b env r))) ≤ path_bound n m (suc (length rs))
       next more None e = omega arith
       next more (Some r) e =
           let once = is_once p.path env rs r.var in
-          let walk = next_less env r (λ row. work_over T p b once rs (bind r.var row env)) (path_bound n m (length rs))
-          (rows_by b r.access env T) t h e (no_less _ _ refl) (λ row i. i) (λ row s g. more once (bind r.var row env) s g) in
-          with_middle _ (rest_bound n (suc (length rs))) m (n * (1 + path_bound n m (length rs)))
-          (both_less once (is_walked T p b once (x ∷ rs) env) (rest_cost T p.path b (x ∷ rs) env) _ (rest_bound n (suc (length rs)))
-          (n * (1 + path_bound n m (length rs))) (rest_less (x ∷ rs) env t h) walk)
+          let walk = next_less env r (λ row. work_over passed T p b once rs (bind r.var row env)) (path_bound n m (length rs))
+          (next_rows T p.path b env r) t h e (no_less _ _ refl) (λ row i. i) (λ row s g. more once (bind r.var row env) s g) in
+          let before = once_less n rs (nat_eq r.var.0 0) (path_apart p.path env r.var) (rest_cost T p.path b (x ∷ rs) env)
+          (rest_less (x ∷ rs) env t h) in
+          le _ _ _
+          (sum_less (is_walked T p b once (x ∷ rs) env) _ _ (once_bound n (length rs)) (n * (1 + path_bound n m (length rs))) before walk)
+          (higher_right (rest_bound n (suc (length rs)) + m) (once_bound n (length rs) + n * (1 + path_bound n m (length rs))))
 
       go : More → (o : Option Row)
-          → asked_cost T p b sure (x ∷ rs) env o
-          (cost_of (further p.path b env) (λ r. once_cost T p b (is_once p.path env rs r.var) (x ∷ rs) env
-          (total (λ row. 1 + work_over T p b (is_once p.path env rs r.var) rs (bind r.var row env)) (rows_by b r.access env T))))
+          → asked_cost passed T p b sure (x ∷ rs) env o
+          (cost_of (further p.path b env) (λ r. once_cost T p b (is_once p.path env rs r.var) (x ∷ rs) env (total (λ row.
+          1 + work_over passed T p b (is_once p.path env rs r.var) rs (bind r.var row env)) (next_rows T p.path b env r))))
           ≤ path_bound n m (suc (length rs))
       go more None = next more (further p.path b env) refl
       go more (Some (OfDoc d)) =
-          add_left _ (rest_bound n (suc (length rs)) + m) (n * (1 + path_bound n m (length rs))) (here_less sure (x ∷ rs) env t h)
+          passed_less (passed d) _ (path_bound n m (suc (length rs)))
+          (le _ _ _ (here_less sure (x ∷ rs) env t h)
+          (higher_left (rest_bound n (suc (length rs)) + m) (once_bound n (length rs) + n * (1 + path_bound n m (length rs)))))
       go more (Some (OfNote d)) = omega arith
 
 none_held : (j : ℕ) → is_held [] j ≡ true → ⊥
@@ -196,77 +206,16 @@ driver_tables T path v row t j z y = go (held_was [] v row j y)
     go (inr y) = absurd (none_held j y)
 
 pub probes_by_index_are_linear : ProbesByIndexAreLinear
-probes_by_index_are_linear T w p v order n m k bounded e short body =
-    total_times (λ row. 1 + cost_at T w p order (bind v row [])) (1 + path_bound n m (length order)) (walked T w p (seek_of p.at) v)
-    (λ row i. plus_one _ _ (marked row (driven_are T w p v bounded e row (walked_in T w p (seek_of p.at) v row i)).0))
+probes_by_index_are_linear entries T w p v order n m k bounded e short body =
+    total_times (λ row. 1 + cost_at (λ b. was_seen entries) T w p order (bind v row [])) (1 + path_bound n m (length order))
+    (walked T w p (seek_of p.at) v) (λ row i.
+    plus_one _ _ (marked row (driven_are T w p v bounded e row (walked_in T w p (seek_of p.at) v row i)).0))
   where
-    marked : (row : Row) → In row (rows_of (table_in p.path v.0) T) → cost_at T w p order (bind v row []) ≤ path_bound n m (length order)
+    marked : (row : Row) → In row (rows_of (table_in p.path v.0) T)
+        → cost_at (λ b. was_seen entries) T w p order (bind v row []) ≤ path_bound n m (length order)
     marked row i = go (mark_in w (value p.at (bind v row [])))
       where
-        go : (o : Option ℤ) → marked_cost T w p order (bind v row []) o ≤ path_bound n m (length order)
+        go : (o : Option ℤ) → marked_cost (λ b. was_seen entries) T w p order (bind v row []) o ≤ path_bound n m (length order)
         go None = omega arith
-        go (Some b) = walk_less T p v n m k short body b false order (bind v row []) (driver_tables T p.path v row i) (held_same [] v row)
-
--- the probe of new replies
-abbrev asked_step : Step
-asked_step = record { var = document_var; table = Docs; guards = [] }
-
-abbrev reply_guard : Atom
-reply_guard = Texts (Field reply_var InReplyTo) Eq (Field document_var MsgId)
-
-abbrev reply_step : Step
-reply_step = record { var = reply_var; table = Docs; guards = reply_guard ∷ [] }
-
-reply_scoped : (a : Atom) → In a (reply_guard ∷ []) → AtomIn (vars_of reply_probe.path) a
-reply_scoped a (inl e) = subst (AtomIn (vars_of reply_probe.path)) (sym e) (inr (inl refl), inl refl)
-reply_scoped a (inr i) = absurd i
-
-reply_is_probe : IsProbe reply_probe
-reply_is_probe = record {
-  asked = ([], reply_step ∷ [], refl);
-  room = omega arith;
-  once = ((λ i. elim i [ inl e ↦ absurd (omega (arith, e)) | inr j ↦ absurd j ]), ((λ i. i), tt));
-  apart = λ k i. elim i [ inl e ↦ inl e | inr j ↦ elim j [ inl e ↦ inr (omega (arith, e)) | inr n ↦ absurd n ] ];
-  guards = λ step i a j. elim i [
-    | inl e ↦ absurd (subst (λ (s : Step). In a s.guards) e j)
-    | inr x ↦ elim x [ inl e ↦ reply_scoped a (subst (λ (s : Step). In a s.guards) e j) | inr y ↦ absurd y ]
-  ];
-  at = inr (inl refl);
-  body = tt;
-}
-
--- the message that it replies to is found by its message id
-abbrev asked_access : Access
-asked_access = ByMsgId (Field reply_var InReplyTo)
-
-near_asked : (env : Env) → is_held env reply_var.0 ≡ true → near reply_probe.path env asked_step ≡ Some asked_access
-near_asked env h =
-    ap (λ c. option_or (option_or (option_or (option_map ByMsgId (if c then Some (Field reply_var InReplyTo) else None)) None) None)
-    (first_some (kind_access reply_probe.path env asked_step)
-    (K.ByParent ∷ K.ReferencedBy ∷ K.ByReference ∷ K.BySubject ∷ K.BySender ∷ K.ByWord ∷ []))) h
-
-one_asked : (T : Tables) → HasDistinctIds T → (o : Option (List ℕ))
-    → length (filter (λ row. both_texts Eq (text_field MsgId row) o) (rows_of Docs T)) ≤ 1
-one_asked T d None = subst (λ rows. length rows ≤ 1) (no_text T.docs None MsgId refl) (omega arith)
-one_asked T d (Some id) = d id
-
-reply_short : (T : Tables) → HasDistinctIds T → HasShortAccesses T reply_probe.path reply_var 1
-reply_short T d b env r t h e = go k.step k.is_step k.fresh k.access
-  where
-    k : IsNearest reply_probe.path env r
-    k = nearest_serves reply_probe.path env r e
-
-    asked : r.access ≡ asked_access → length (rows_by b r.access env T) ≤ 1
-    asked q = subst (λ a. length (rows_by b a env T) ≤ 1) (sym q) (one_asked T d (text (Field reply_var InReplyTo) env))
-
-    go : (step : Step) → In step reply_probe.path → is_held env step.var.0 ≡ false
-        → r.access ≡ unwrap_or (near reply_probe.path env step) (whole step.table) → length (rows_by b r.access env T) ≤ 1
-    go step (inl q) f a = asked (a ∙ ap (λ (s : Step). unwrap_or (near reply_probe.path env s) (whole s.table)) q
-        ∙ ap (λ o. unwrap_or o (whole Docs)) (near_asked env h))
-    go step (inr (inl q)) f a = absurd (false≢true (sym f ∙ ap (λ (s : Step). is_held env s.var.0) q ∙ h))
-    go step (inr (inr i)) f a = absurd i
-
-pub replies_take_three_steps : RepliesTakeThreeSteps
-replies_take_three_steps T w d =
-    probes_by_index_are_linear T w reply_probe reply_var (order_of reply_probe.path reply_probe.at.base) 1 0 reply_is_probe refl refl
-    (reply_short T d) (λ env t. omega arith)
+        go (Some b) = walk_less (was_seen entries) T p v n m k short body b false order (bind v row []) (driver_tables T p.path v row i)
+            (held_same [] v row)

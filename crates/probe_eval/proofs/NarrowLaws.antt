@@ -1,72 +1,89 @@
--- Rows with which there is no way on.
-use Rattle.std.proofs.Common.{◌≡◌, ℕ, ◌≤◌, ℤ, Bool, true, false, Option, List, refl, sym, ap, arith}
-use Rattle.std.specs.Prelude.{◌&&◌, ◌<ℤ◌, IfSome, int_le}
-use Rattle.std.specs.List.{list_any}
-use Rattle.std.proofs.lemmas.Int.{ints}
-use Rattle.tap_base.specs.declared.numbers.DocNum.{DocNum}
+-- The documents of a list that guards of a path leave.
+use Rattle.std.proofs.Common.{◌≡◌, ◌∙◌, ℤ, Bool, true, false, not, ◌||◌, List, [], ◌∷◌, length, refl, sym, ap, subst, filter, arith}
+use Rattle.std.specs.Prelude.{int_le}
 use Rattle.tap_rows.specs.declared.rows.Doc.{Doc}
-use Rattle.tap_rows.specs.Kept.{In}
-use Rattle.tap_rows.specs.declared.tables.Tables.{Tables}
 use Rattle.tql_core.specs.declared.term.Var.{Var}
-use Rattle.tql_core.specs.Row.{Row, OfDoc}
-use Rattle.tql_core.specs.Values.{Env, bind}
+use Rattle.tql_core.specs.declared.atom.Atom.{Atom}
+use Rattle.tql_core.specs.Row.{OfDoc}
+use Rattle.tql_core.specs.Values.{Env}
 use Rattle.time_marks.specs.declared.mark.Step.{Step}
-use Rattle.time_marks.specs.Probes.{come_by}
-use Rattle.access_plan.specs.declared.reach.Reach.{Reach}
-use Rattle.row_index.specs.Orders.{doc_arrival, up_to}
-use Rattle.probe_eval.specs.declared.side.Side.TheVariants.{Above, Below}
-use Rattle.probe_eval.specs.LeftOut.{LeavesFalse}
-use Rattle.probe_eval.specs.NumberBounds.{RulesOut, between}
-use Rattle.probe_eval.specs.Open.{path_open, path_apart, may_go}
-use Rattle.probe_eval.specs.Rests.{until, rest_of, decides}
-use Rattle.probe_eval.specs.Work.{total}
-use Rattle.probe_eval.proofs.LeftOutLaws as left
-use Rattle.probe_eval.proofs.RestSteps.{stopped}
-use Rattle.probe_eval.proofs.Steps.{or_none}
+use Rattle.access_plan.specs.Accesses.{is_held_or}
+use Rattle.row_index.specs.declared.cut.Order.TheVariants.{Arrival}
+use Rattle.row_index.specs.declared.cut.Limit.TheVariants.{UpTo}
+use Rattle.row_index.specs.Cuts.{keeps}
+use Rattle.row_index.specs.Orders.{IsRisingBy, doc_arrival, doc_rank}
+use Rattle.row_index.proofs.Halves.{rising_kept}
+use Rattle.probe_eval.specs.Cuts.{is_half_guard, passes_cut}
+use Rattle.probe_eval.specs.Open.{atom_known}
+use Rattle.probe_eval.specs.SingleLists.{IsSorted}
+use Rattle.probe_eval.specs.StepRows.{passes_open, passes_guards, passes_path, passes_step}
+use Rattle.probe_eval.proofs.CutLaws.{half_passes}
+use Rattle.probe_eval.proofs.Costs.{filter_same, filter_all, filter_both}
 
-not_first : (a b c : Bool) → a ≡ false → (a && b && c) ≡ false
-not_first a b c h = rw h refl
+-- what is left of documents in order is in order
+pub still_in_order : (keeps : Doc → Bool) (docs left : List Doc) → left ≡ filter keeps docs → IsSorted docs → IsSorted left
+still_in_order keeps docs left e s = record {
+  arrivals = subst (IsRisingBy doc_arrival) (sym e) (rising_kept doc_arrival keeps docs s.arrivals);
+  numbers = subst (IsRisingBy doc_rank) (sym e) (rising_kept doc_rank keeps docs s.numbers);
+}
 
-not_second : (a b : Bool) → b ≡ false → (a && b) ≡ false
-not_second true b h = h
-not_second false b h = refl
+-- a list that the mark cuts
+pub come_cut : (bound b : ℤ) (docs come : List Doc) → come ≡ filter (keeps (record { order = Arrival; limit = UpTo; bound = bound })) docs
+    → bound ≡ b → come ≡ filter (λ d. int_le d.arrival b) docs
+come_cut bound b docs come e q = e ∙ ap (λ z. filter (λ d. int_le d.arrival z) docs) q
 
-not_by : (a b : ℤ) → b <ℤ a → int_le a b ≡ false
-not_by a b h = grind (arith, ints, h)
+module _ (v : Var) (env : Env) where
+  -- a guard that can be evaluated leaves what it cuts, another one all
+  pub cut_known : (guard : Atom) (docs left : List Doc) → atom_known (is_held_or env v) guard ≡ true
+      → left ≡ filter (λ d. passes_cut v env guard (OfDoc d)) docs → left ≡ filter (λ d. passes_open v env guard (OfDoc d)) docs
+  cut_known guard docs left k e = e
+      ∙ filter_same (λ d. passes_cut v env guard (OfDoc d)) (λ d. passes_open v env guard (OfDoc d)) docs (λ d. rw k refl)
 
-module _ (path : List Step) (b : ℤ) (v : Var) (env : Env) where
-  abbrev goes : Doc → Bool
-  goes d = may_go path b (bind v (OfDoc d) env)
+  pub cut_unknown : (guard : Atom) (docs : List Doc) → atom_known (is_held_or env v) guard ≡ false
+      → docs ≡ filter (λ d. passes_open v env guard (OfDoc d)) docs
+  cut_unknown guard docs k = sym (filter_all (λ d. passes_open v env guard (OfDoc d)) docs (λ d i. rw k refl))
 
-  -- documents that arrived after the mark, or whose numbers the path rules out, are left out
-  pub those_on : (docs by kept : List Doc) (low high : Option DocNum) → by ≡ up_to doc_arrival b docs → kept ≡ between low high by
-      → IfSome low (λ num. RulesOut Above (λ d. path_open path (bind v (OfDoc d) env)) num.0)
-      → IfSome high (λ num. RulesOut Below (λ d. path_open path (bind v (OfDoc d) env)) num.0)
-      → LeavesFalse goes docs kept
-  those_on docs by kept low high is_by is_kept l h =
-      let late : (d : Doc) → b <ℤ d.arrival → goes d ≡ false =
-      λ d w. not_first (int_le d.arrival b) (come_by b env) (path_open path (bind v (OfDoc d) env)) (not_by d.arrival b w) in
-      let shut : (d : Doc) → In d by → path_open path (bind v (OfDoc d) env) ≡ false
-      → goes d ≡ false = λ d i e. not_second (come_by b (bind v (OfDoc d) env)) (path_open path (bind v (OfDoc d) env)) e in
-      left.left_again goes docs by (left.left_up_to goes docs b by is_by late) kept
-      (left.left_by (λ d. path_open path (bind v (OfDoc d) env))
-      by kept (left.left_between (λ d. path_open path (bind v (OfDoc d) env)) by kept low high is_kept l h) goes shut)
+  pub cut_half : (guard : Atom) (docs : List Doc) → is_half_guard guard ≡ false
+      → docs ≡ filter (λ d. passes_open v env guard (OfDoc d)) docs
+  cut_half guard docs h = sym (filter_all (λ d. passes_open v env guard (OfDoc d)) docs
+      (λ d i. or_second (not (atom_known (is_held_or env v) guard)) (passes_cut v env guard (OfDoc d))
+      (half_passes v env guard (OfDoc d) h)))
+    where
+      or_second : (a b : Bool) → b ≡ true → (a || b) ≡ true
+      or_second true b h = refl
+      or_second false b h = h
 
-  -- a search for the rest of the path finds as much beside the rows that are left, in no more steps
-  module _ (T : Tables) (order : List Reach) (rows kept : List Row)
-      (k : LeavesFalse (λ row. may_go path b (bind v row env)) rows kept) where
-    no_rest : (row : Row) → may_go path b (bind v row env) ≡ false → rest_of T path b order (bind v row env) ≡ false
-    no_rest row e = sym (stopped T path b order (bind v row env) e)
+  -- one guard after the other
+  pub no_guard_cut : (guards : List Atom) (docs : List Doc) → length guards ≡ 0
+      → docs ≡ filter (λ d. passes_guards v env guards (OfDoc d)) docs
+  no_guard_cut [] docs e = sym (filter_all (λ d. true) docs (λ d i. refl))
+  no_guard_cut (a ∷ guards) docs e = absurd (omega (arith, e))
 
-    no_decision : (row : Row) → may_go path b (bind v row env) ≡ false → decides T path b order env v row ≡ false
-    no_decision row e = or_none (no_rest row e) (ap (λ m. m && path_apart path env v) e)
+  pub guard_cut : (guards rest : List Atom) (guard : Atom) (docs some left : List Doc) → guards ≡ guard ∷ rest
+      → some ≡ filter (λ d. passes_open v env guard (OfDoc d)) docs
+      → left ≡ filter (λ d. passes_guards v env rest (OfDoc d)) some → left ≡ filter (λ d. passes_guards v env guards (OfDoc d)) docs
+  guard_cut guards rest guard docs some left e s l =
+      l ∙ ap (filter (λ d. passes_guards v env rest (OfDoc d))) s
+      ∙ filter_both (λ d. passes_open v env guard (OfDoc d)) (λ d. passes_guards v env rest (OfDoc d)) docs
+      ∙ ap (λ g. filter (λ d. passes_guards v env g (OfDoc d)) docs) (sym e)
 
-    pub any_left : list_any (λ row. rest_of T path b order (bind v row env)) rows
-        ≡ list_any (λ row. rest_of T path b order (bind v row env)) kept
-    any_left = sym (left.any_left (λ row. may_go path b (bind v row env)) rows kept k (λ row. rest_of T path b order (bind v row env))
-        (λ row i e. no_rest row e))
+  -- one step after the other
+  pub no_step_cut : (path : List Step) (docs : List Doc) → length path ≡ 0 → docs ≡ filter (λ d. passes_path v env path (OfDoc d)) docs
+  no_step_cut [] docs e = sym (filter_all (λ d. true) docs (λ d i. refl))
+  no_step_cut (step ∷ path) docs e = absurd (omega (arith, e))
 
-    pub until_left : (cost : Row → ℕ)
-        → total cost (until (decides T path b order env v) kept) ≤ total cost (until (decides T path b order env v) rows)
-    until_left cost = left.until_left (λ row. may_go path b (bind v row env)) rows kept k cost (decides T path b order env v) (λ row i e.
-        no_decision row e)
+  pub step_cut : (path rest : List Step) (step : Step) (guards : List Atom) (docs some left : List Doc) → path ≡ step ∷ rest
+      → guards ≡ step.guards → some ≡ filter (λ d. passes_guards v env guards (OfDoc d)) docs
+      → left ≡ filter (λ d. passes_path v env rest (OfDoc d)) some → left ≡ filter (λ d. passes_path v env path (OfDoc d)) docs
+  step_cut path rest step guards docs some left e g s l =
+      l ∙ ap (filter (λ d. passes_path v env rest (OfDoc d))) (s ∙ ap (λ z. filter (λ d. passes_guards v env z (OfDoc d)) docs) g)
+      ∙ filter_both (λ d. passes_guards v env step.guards (OfDoc d)) (λ d. passes_path v env rest (OfDoc d)) docs
+      ∙ ap (λ p. filter (λ d. passes_path v env p (OfDoc d)) docs) (sym e)
+
+  -- the mark before them
+  pub mark_cut : (b : ℤ) (path : List Step) (docs come left : List Doc) → come ≡ filter (λ d. int_le d.arrival b) docs
+      → left ≡ filter (λ d. passes_path v env path (OfDoc d)) come
+      → left ≡ filter (λ d. passes_step v b env path (OfDoc d)) docs
+  mark_cut b path docs come left c l =
+      l ∙ ap (filter (λ d. passes_path v env path (OfDoc d))) c
+      ∙ filter_both (λ d. int_le d.arrival b) (λ d. passes_path v env path (OfDoc d)) docs

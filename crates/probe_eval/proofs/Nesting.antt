@@ -31,7 +31,7 @@ use Rattle.access_plan.specs.Nearest.{nearest}
 use Rattle.access_plan.proofs.Nearests.{nearest_serves, nearest_is_none}
 use Rattle.probe_eval.specs.Tables.{table_in}
 use Rattle.probe_eval.specs.Open.{may_go}
-use Rattle.probe_eval.specs.Work.{rows_by}
+use Rattle.probe_eval.specs.StepRows.{next_rows}
 use Rattle.probe_eval.specs.Rests.{Rest, left_of, InTables, further, rest_of}
 use Rattle.probe_eval.specs.Nested.{was_seen, new_doc, hit_if, over_rows, holds_here, asked_or, hits_over}
 use Rattle.probe_eval.proofs.Members.{from_flat, to_flat, only_one, one_only}
@@ -193,18 +193,19 @@ module _ (entries : List Entry) (T : Tables) (p : Probe) (b : ℤ) (k : IsProbe 
           → IsHit entries T p b h
 
       next : More → (o : Option Reach) → further p.path b env ≡ o
-          → In h (over_rows T b env o (λ r row. hits_over entries T p b rs (bind r.var row env))) → IsHit entries T p b h
+          → In h (over_rows T p.path b env o (λ r row. hits_over entries T p b rs (bind r.var row env))) → IsHit entries T p b h
       next more None e i = absurd i
       next more (Some r) e i =
           let n = nearest_serves p.path env r (further_is p.path b env r e).1 in
-          let y = from_flat (λ row. hits_over entries T p b rs (bind r.var row env)) (rows_by b r.access env T) h i in
+          let y = from_flat (λ row. hits_over entries T p b rs (bind r.var row env)) (next_rows T p.path b env r) h i in
           more (bind r.var y.0 env) (in_tables T p.path b k.once env r y.0 t (walked_row T p.path b k.once env r y.0 n y.1)) (λ j z.
           held_more env r.var y.0 j (dr j z))
           (value_same (base_vars p.at.base) env (bind r.var y.0 env) (λ j z. kept_on T p.path b k.once env r y.0 n j (dr j z))
           p.at (base_own p.at.base) ∙ v) y.2
 
       go : More → (o : Option Row) → lookup 0 env ≡ o → In h (asked_or entries T p b (x ∷ rs) env o
-          (over_rows T b env (further p.path b env) (λ r row. hits_over entries T p b rs (bind r.var row env)))) → IsHit entries T p b h
+          (over_rows T p.path b env (further p.path b env) (λ r row. hits_over entries T p b rs (bind r.var row env))))
+          → IsHit entries T p b h
       go more None q i = next more (further p.path b env) refl i
       go more (Some (OfDoc d)) q i = pair_sound (x ∷ rs) env d h q t dr v i
       go more (Some (OfNote n)) q i = absurd i
@@ -294,6 +295,6 @@ module _ (entries : List Entry) (T : Tables) (p : Probe) (b : ℤ) (k : IsProbe 
                 let z = next_row T p.path b k.once env r near rest in
                 let on = is_further p.path b env r (may_go_on T p.path b k.once env c rest) e in
                 subst (In h) (sym (next_hits entries T p b x rs env r q on))
-                (to_flat (λ row. hits_over entries T p b rs (bind r.var row env)) (rows_by b r.access env T) z.0 h z.1
+                (to_flat (λ row. hits_over entries T p b rs (bind r.var row env)) (next_rows T p.path b env r) z.0 h z.1
                 (more (bind r.var z.0 env) (same_bound env f.env r.var z.0 same z.2) (and_from _ _ z.3 c)
                 (less _ _ _ (fewer_left T p.path b k.once env r z.0 near) l) (λ j i. held_more env r.var z.0 j (dr j i))))

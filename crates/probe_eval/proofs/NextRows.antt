@@ -13,7 +13,9 @@ use Rattle.access_plan.specs.Orders.{reach_of}
 use Rattle.access_plan.specs.Nearest.{from_row, nearest}
 use Rattle.probe_eval.specs.declared.next.Next.{Next}
 use Rattle.probe_eval.specs.declared.next.Next.TheVariants.{Unknown, Known}
+use Rattle.access_plan.specs.Views.{option_access}
 use Rattle.probe_eval.specs.Nexts.{IsNearestIfKnown}
+use Rattle.probe_eval.proofs.GivenLaws.{sole_held}
 
 module _ (path : List Step) (known : ℕ → Bool) where
   near_known : Step → Option Access
@@ -52,4 +54,8 @@ nearest_alike path v row other env = nearest_held path (bind v row env) (bind v 
 pub next_alike : (path : List Step) (v : Var) (row other : Row) (env : Env) (next : Next) → IsNearestIfKnown path (bind v row env) next
     → IsNearestIfKnown path (bind v other env) next
 next_alike path v row other env Unknown h = h
-next_alike path v row other env (Known reach) h = h ∙ nearest_alike path v row other env
+next_alike path v row other env (Known reach sole) h = record {
+  is = h.is ∙ nearest_alike path v row other env;
+  sole = λ r e. sole_held path (bind v row env) (bind v other env) r (option_access sole) (held_alike v row other env)
+      (h.sole r (nearest_alike path v row other env ∙ e));
+}

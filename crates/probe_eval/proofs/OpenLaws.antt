@@ -83,6 +83,35 @@ module _ (known : ℕ → Bool) (env final : Env) (h : AreSame known env final) 
   atom_is (Has v f y) i = let k = and_parts (known v.0) (text_known known y) i in rw (h v.0 k.0, text_is y k.1)
   atom_is (Times x op y) i = let k = and_parts (base_known known x.base) (base_known known y.base) i in rw (value_is x k.0, value_is y k.1)
 
+-- what is named of some variables is named of more of them
+module _ (known more : ℕ → Bool) (h : (k : ℕ) → known k ≡ true → more k ≡ true) where
+  more_base : (b : Base) → base_known known b ≡ true → base_known more b ≡ true
+  more_base (Arrival v) i = h v.0 i
+  more_base (Date v) i = h v.0 i
+  more_base Fixed i = refl
+  more_base (ArrivalDay v n) i = h v.0 i
+  more_base (DateDay v n) i = h v.0 i
+
+  more_number : (x : NumExpr) → number_known known x ≡ true → number_known more x ≡ true
+  more_number (Literal n) i = refl
+  more_number (Field v f) i = h v.0 i
+
+  more_text : (x : TextExpr) → text_known known x ≡ true → text_known more x ≡ true
+  more_text (X.Literal t) i = refl
+  more_text (X.Field v f) i = h v.0 i
+
+  pub more_known : (a : Atom) → atom_known known a ≡ true → atom_known more a ≡ true
+  more_known (Numbers x op y) i =
+      let k = and_parts (number_known known x) (number_known known y) i in
+      and_from _ _ (more_number x k.0) (more_number y k.1)
+  more_known (Texts x op y) i =
+      let k = and_parts (text_known known x) (text_known known y) i in
+      and_from _ _ (more_text x k.0) (more_text y k.1)
+  more_known (Has v f y) i = let k = and_parts (known v.0) (text_known known y) i in and_from _ _ (h v.0 k.0) (more_text y k.1)
+  more_known (Times x op y) i =
+      let k = and_parts (base_known known x.base) (base_known known y.base) i in
+      and_from _ _ (more_base x.base k.0) (more_base y.base k.1)
+
 -- a guard that can be evaluated has the truth that it has in the end
 module _ (env final : Env) (h : AreSame (is_held env) env final) where
   open_one : (a : Atom) → true_atom a final ≡ true → may_hold env a ≡ true

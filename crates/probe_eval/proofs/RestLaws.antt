@@ -22,14 +22,14 @@ use Rattle.access_plan.specs.Accesses.{admits, table_of, is_held}
 use Rattle.access_plan.specs.Laws.{AreSame}
 use Rattle.access_plan.specs.Nearest.{nearest, IsNearest}
 use Rattle.access_plan.proofs.Counts.{count_<, count_none}
-use Rattle.access_plan.proofs.Nearests.{nearest_serves, nearest_is_none, nearest_admits, nearest_keeps_table}
+use Rattle.access_plan.proofs.Nearests.{nearest_serves, nearest_is_none, nearest_keeps_table}
 use Rattle.probe_eval.specs.Open.{path_open, may_go}
-use Rattle.probe_eval.specs.Work.{rows_by}
+use Rattle.probe_eval.specs.StepRows.{step_access, next_rows}
 use Rattle.probe_eval.specs.Laws.{RestsAreFound}
 use Rattle.probe_eval.specs.Tables.{table_in}
 use Rattle.probe_eval.specs.Rests.{Rest, is_left, left_of, InTables, all_or, rest_of}
 use Rattle.probe_eval.proofs.Tables.{table_is}
-use Rattle.probe_eval.proofs.WalkRows.{in_rows, to_rows}
+use Rattle.probe_eval.proofs.StepLaws.{step_table, step_admits, in_step_rows, to_step_rows, final_passes}
 use Rattle.probe_eval.proofs.OpenLaws.{held_same, held_more, held_was, same_bound, stays_open, all_true}
 
 module _ (T : Tables) (path : List Step) (b : ℤ) (once : Distinct (vars_of path)) where
@@ -41,9 +41,10 @@ module _ (T : Tables) (path : List Step) (b : ℤ) (once : Distinct (vars_of pat
   reach_rows env r k = nearest_keeps_table path env r k ∙ k.table ∙ sym (table_is path k.step once k.is_step)
       ∙ ap (λ (v : Var). table_in path v.0) (sym k.var)
 
-  pub walked_row : (env : Env) (r : Reach) (row : Row) → IsNearest path env r → In row (rows_by b r.access env T)
+  pub walked_row : (env : Env) (r : Reach) (row : Row) → IsNearest path env r → In row (next_rows T path b env r)
       → In row (rows_of (table_in path r.var.0) T)
-  walked_row env r row k i = subst (λ t. In row (rows_of t T)) (reach_rows env r k) (in_rows env T row b r.access i)
+  walked_row env r row k i = subst (λ t. In row (rows_of t T)) (step_table T path env r k ∙ reach_rows env r k)
+      (in_step_rows T (step_access T path env r) r.var b env path row i)
 
   pub in_tables : (env : Env) (r : Reach) (row : Row) → InTables T path env → In row (rows_of (table_in path r.var.0) T)
       → InTables T path (bind r.var row env)
@@ -74,11 +75,12 @@ module _ (T : Tables) (path : List Step) (b : ℤ) (once : Distinct (vars_of pat
   -- a row that serves in the end is walked
   pub walks_row : (env final : Env) (r : Reach) (row : Row) → IsNearest path env r → AreSame (is_held env) env final
       → lookup r.var.0 final ≡ Some row → In row (rows_of (table_in path r.var.0) T) → int_le (arrival row) b ≡ true
-      → ((step : Step) → In step path → (a : Atom) → In a step.guards → true_atom a final ≡ true) → In row (rows_by b r.access env T)
+      → ((step : Step) → In step path → (a : Atom) → In a step.guards → true_atom a final ≡ true) → In row (next_rows T path b env r)
   walks_row env final r row k same e i c g =
-      let a : admits r.access env row ≡ true = nearest_admits path env final r row k same e g in
-      let t : In row (rows_of (table_of r.access) T) = subst (λ z. In row (rows_of z T)) (sym (reach_rows env r k)) i in
-      to_rows env T row b r.access t a c
+      let a : admits (step_access T path env r) env row ≡ true = step_admits T path env r final row k same e g in
+      let t : In row (rows_of (table_of (step_access T path env r)) T) =
+      subst (λ z. In row (rows_of z T)) (sym (step_table T path env r k ∙ reach_rows env r k)) i in
+      to_step_rows T (step_access T path env r) r.var b env path row t a c (final_passes env final r.var row same e path g)
 
   -- one step fewer is left
   pub fewer_left : (env : Env) (r : Reach) (row : Row) → IsNearest path env r → left_of path (bind r.var row env) < left_of path env
@@ -139,17 +141,17 @@ module _ (T : Tables) (path : List Step) (b : ℤ) (once : Distinct (vars_of pat
         go (Some r) e m h = absurd (false≢true h)
     rest_sound (x ∷ rs) env t h =
         let p = and_parts (may_go path b env)
-        (all_or (nearest path env) (λ r. list_any (λ row. rest_of T path b rs (bind r.var row env)) (rows_by b r.access env T))) h in
+        (all_or (nearest path env) (λ r. list_any (λ row. rest_of T path b rs (bind r.var row env)) (next_rows T path b env r))) h in
         go (λ e. rest_sound rs e) (nearest path env) refl p.0 p.1
       where
         go : ((e : Env) → InTables T path e → rest_of T path b rs e ≡ true → Rest T path b e) → (o : Option Reach) → nearest path env ≡ o
             → may_go path b env ≡ true
-            → all_or o (λ r. list_any (λ row. rest_of T path b rs (bind r.var row env)) (rows_by b r.access env T)) ≡ true
+            → all_or o (λ r. list_any (λ row. rest_of T path b rs (bind r.var row env)) (next_rows T path b env r)) ≡ true
             → Rest T path b env
         go more None e m h = there env t m e
         go more (Some r) e m h =
             let k = nearest_serves path env r e in
-            let y = any_in (λ row. rest_of T path b rs (bind r.var row env)) (rows_by b r.access env T) h in
+            let y = any_in (λ row. rest_of T path b rs (bind r.var row env)) (next_rows T path b env r) h in
             beside env r y.0 k (more (bind r.var y.0 env) (in_tables env r y.0 t (walked_row env r y.0 k y.1)) y.2)
 
   -- the rest goes on from one of its rows
@@ -162,7 +164,7 @@ module _ (T : Tables) (path : List Step) (b : ℤ) (once : Distinct (vars_of pat
 
   -- the row of the next step
   pub next_row : (env : Env) (r : Reach) (k : IsNearest path env r) (x : Rest T path b env)
-      → (row : Row) × In row (rows_by b r.access env T) × (lookup r.var.0 x.final ≡ Some row) × (int_le (arrival row) b ≡ true)
+      → (row : Row) × In row (next_rows T path b env r) × (lookup r.var.0 x.final ≡ Some row) × (int_le (arrival row) b ≡ true)
   next_row env r k x =
       let y = x.rows k.step k.is_step in
       let e : lookup r.var.0 x.final ≡ Some y.0 = ap (λ (v : Var). lookup v.0 x.final) k.var ∙ y.2 in
@@ -184,12 +186,12 @@ module _ (T : Tables) (path : List Step) (b : ℤ) (once : Distinct (vars_of pat
 
       go : ((e : Env) → come_by b e ≡ true → left_of path e ≤ length rs → Rest T path b e → rest_of T path b rs e ≡ true)
           → (o : Option Reach) → nearest path env ≡ o
-          → all_or o (λ r. list_any (λ row. rest_of T path b rs (bind r.var row env)) (rows_by b r.access env T)) ≡ true
+          → all_or o (λ r. list_any (λ row. rest_of T path b rs (bind r.var row env)) (next_rows T path b env r)) ≡ true
       go more None e = refl
       go more (Some r) e =
           let k = nearest_serves path env r e in
           let z = next_row env r k x in
-          in_any (λ row. rest_of T path b rs (bind r.var row env)) (rows_by b r.access env T) z.0 z.1
+          in_any (λ row. rest_of T path b rs (bind r.var row env)) (next_rows T path b env r) z.0 z.1
           (more (bind r.var z.0 env) (and_from _ _ z.3 c) (less _ _ _ (fewer_left env r z.0 k) l) (goes_on env r z.0 x z.2))
 
 pub rests_are_found : RestsAreFound

@@ -3,8 +3,7 @@ use Rattle.std.proofs.Common.{◌≡◌, ◌∙◌, ◌+◌, ◌≤◌, ◌||◌
 use Rattle.std.proofs.Common.{inr, arith}
 use Rattle.std.specs.Prelude.{◌<◌, length, slice_get, slice_index_or}
 use Rattle.tap_rows.specs.Kept.{In}
-use Rattle.probe_eval.specs.Work.{total}
-use Rattle.probe_eval.specs.Rests.{until}
+use Rattle.probe_eval.specs.Work.{total, until}
 
 module _ {A : Type 0} where
   -- the steps of the row that was handed out are taken
@@ -29,13 +28,6 @@ module _ {A : Type 0} where
   until_end cost f s next now bound rows left r h e n c =
       let k : s + total (λ x. 1 + cost x) (until f (r ∷ left)) ≤ bound = subst (λ z. s + total (λ x. 1 + cost x) (until f z) ≤ bound) e h in
       omega (arith, k, n, c)
-
-  -- the same of a loop that takes no step of its own
-  pub part_step : (cost : A → ℕ) (s now bound : ℕ) (rows left : List A) (r : A) → s + total cost rows ≤ bound → rows ≡ r ∷ left
-      → now ≤ s + cost r → now + total cost left ≤ bound
-  part_step cost s now bound rows left r h e c =
-      let k : s + (cost r + total cost left) ≤ bound = subst (λ z. s + total cost z ≤ bound) e h in
-      omega (arith, k, c)
 
   -- what is left from a place on
   pub rest_at : (xs : List A) (j : ℕ) (x : A) → slice_get xs j ≡ Some x → drop j xs ≡ x ∷ drop (j + 1) xs

@@ -81,6 +81,10 @@ pub rows_less : (f : Row → ℕ) (b : ℤ) (a : Access) (T : Tables) → total 
 rows_less f b (ReferencedBy v) T = omega arith
 rows_less f b a T = total_filter f (admits_by b a []) (rows_of (table_of a) T)
 
+pub all_rows_less : (f : Row → ℕ) (a : Access) (T : Tables) → total f (all_rows_by a [] T) ≤ total f (rows_of (table_of a) T)
+all_rows_less f (ReferencedBy v) T = omega arith
+all_rows_less f a T = total_filter f (admits a []) (rows_of (table_of a) T)
+
 -- a test that only admitted rows pass says the same of the rows that an access gives
 pub any_walked : (f : Row → Bool) (a : Access) (env : Env) (T : Tables) → ((row : Row) → f row ≡ true → admits a env row ≡ true)
     → list_any f (rows_of (table_of a) T) ≡ list_any f (all_rows_by a env T)

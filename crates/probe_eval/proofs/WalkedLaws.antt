@@ -91,7 +91,7 @@ module _ (entries : List Entry) (T : Tables) (p : Probe) (b : ℤ) (env : Env) (
   none_over [] = not_asked [] (lookup 0 env)
   none_over (x ∷ rs) =
       ap (λ o. asked_or entries T p b (x ∷ rs) env (lookup 0 env)
-      (over_rows T b env o (λ r row. hits_over entries T p b rs (bind r.var row env)))) no_further
+      (over_rows T p.path b env o (λ r row. hits_over entries T p b rs (bind r.var row env)))) no_further
       ∙ not_asked (x ∷ rs) (lookup 0 env)
 
 flat_filter : {A B : Type 0} (f : A → List B) (q : A → Bool) (xs : List A) → ((x : A) → q x ≡ false → f x ≡ [])

@@ -1,6 +1,7 @@
 -- The rows that drive a probe: those whose mark lies in the window.
-use Rattle.std.specs.Prelude.{ℕ, ◌+◌, ℤ, false, Option, Some, None, List, [], map, if◌then◌else◌}
+use Rattle.std.specs.Prelude.{ℕ, ◌+◌, ℤ, Bool, false, Option, Some, None, List, [], map, if◌then◌else◌}
 use Rattle.std.specs.List.{flat_map}
+use Rattle.tap_rows.specs.declared.rows.Doc.{Doc}
 use Rattle.tap_rows.specs.declared.tables.Tables.{Tables}
 use Rattle.tap_rows.specs.declared.results.Hit.{Hit}
 use Rattle.tap_rows.specs.declared.results.Entry.{Entry}
@@ -21,7 +22,7 @@ use Rattle.access_plan.specs.declared.reach.Reach.{Reach}
 use Rattle.probe_eval.specs.Literals.{chosen, rows_where}
 use Rattle.probe_eval.specs.Tables.{table_in}
 use Rattle.probe_eval.specs.Work.{total}
-use Rattle.probe_eval.specs.Nested.{hits_over, work_over}
+use Rattle.probe_eval.specs.Nested.{was_seen, hits_over, work_over}
 
 -- the variable of the driving row, if there is one
 abbrev pub seek_var : Seek → Option Var
@@ -76,15 +77,20 @@ module _ (entries : List Entry) (T : Tables) (w : Window) (p : Probe) (order : L
   seek_hits seek None = hits_at []
   seek_hits seek (Some v) = flat_map (λ row. hits_at (bind v row [])) (driving T w p seek v)
 
-module _ (T : Tables) (w : Window) (p : Probe) (order : List Reach) where
+-- beside each driving row some documents are passed over, by its mark
+module _ (passed : ℤ → Doc → Bool) (T : Tables) (w : Window) (p : Probe) (order : List Reach) where
   abbrev pub marked_cost : Env → Option ℤ → ℕ
   marked_cost env None = 0
-  marked_cost env (Some b) = work_over T p b false order env
+  marked_cost env (Some b) = work_over (passed b) T p b false order env
 
   abbrev pub cost_at : Env → ℕ
   cost_at env = marked_cost env (mark_in w (value p.at env))
 
   -- the steps that this may take: the driving rows that are walked, and the work beside each
-  abbrev pub seek_cost : Seek → Option Var → ℕ
-  seek_cost seek None = cost_at []
-  seek_cost seek (Some v) = total (λ row. 1 + cost_at (bind v row [])) (walked T w p seek v)
+  abbrev pub passed_cost : Seek → Option Var → ℕ
+  passed_cost seek None = cost_at []
+  passed_cost seek (Some v) = total (λ row. 1 + cost_at (bind v row [])) (walked T w p seek v)
+
+-- the steps that a probe may take: the documents of the box are passed over
+abbrev pub seek_cost : List Entry → Tables → Window → Probe → List Reach → Seek → Option Var → ℕ
+seek_cost entries T w p order seek sv = passed_cost (λ b. was_seen entries) T w p order seek sv

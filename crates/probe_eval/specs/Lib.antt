@@ -1,7 +1,9 @@
 pub mod RowWalks
-pub mod Work
 pub mod Conjuncts
 pub mod Open
+pub mod Cuts
+pub mod Work
+pub mod StepRows
 pub mod Answers
 pub mod Tables
 pub mod Rests
@@ -19,5 +21,5 @@ pub mod Pairs
 pub mod Linear
 pub mod Laws
 pub mod SingleLists
-pub mod NumberBounds
-pub mod LeftOut
+pub mod Shortest
+pub mod Given

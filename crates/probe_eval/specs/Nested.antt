@@ -16,7 +16,8 @@ use Rattle.time_marks.specs.Probes.{Probe}
 use Rattle.little_box.specs.Boxes.{is_in}
 use Rattle.access_plan.specs.declared.reach.Reach.{Reach}
 use Rattle.probe_eval.specs.Open.{path_apart}
-use Rattle.probe_eval.specs.Work.{rows_by, total, work}
+use Rattle.probe_eval.specs.StepRows.{next_rows}
+use Rattle.probe_eval.specs.Work.{total, work}
 use Rattle.probe_eval.specs.Rests.{further, cost_of, rest_of, rest_cost}
 
 -- is the document in the box?
@@ -33,9 +34,9 @@ hit_if passed b None = None
 hit_if passed b (Some doc) = if passed then Some (record { doc = doc; first = b }) else None
 
 -- the rows that the next step may have, each with what f gives
-abbrev pub over_rows : Tables → ℤ → Env → Option Reach → (Reach → Row → List Hit) → List Hit
-over_rows T b env None f = []
-over_rows T b env (Some r) f = flat_map (f r) (rows_by b r.access env T)
+abbrev pub over_rows : Tables → List Step → ℤ → Env → Option Reach → (Reach → Row → List Hit) → List Hit
+over_rows T path b env None f = []
+over_rows T path b env (Some r) f = flat_map (f r) (next_rows T path b env r)
 
 module _ (T : Tables) (p : Probe) (b : ℤ) where
   -- the rest of the path exists beside these rows, and the body is true of them
@@ -58,7 +59,7 @@ module _ (entries : List Entry) (T : Tables) (p : Probe) (b : ℤ) where
   abbrev pub hits_over : List Reach → Env → List Hit
   hits_over [] env = asked_or [] env (lookup 0 env) []
   hits_over (x ∷ rs) env =
-      asked_or (x ∷ rs) env (lookup 0 env) (over_rows T b env (further p.path b env) (λ r row. hits_over rs (bind r.var row env)))
+      asked_or (x ∷ rs) env (lookup 0 env) (over_rows T p.path b env (further p.path b env) (λ r row. hits_over rs (bind r.var row env)))
 
 abbrev pub has_more : List Reach → Bool
 has_more [] = false
@@ -69,11 +70,6 @@ abbrev pub is_once : List Step → Env → List Reach → Var → Bool
 is_once path env rs v = (has_more rs && nat_eq v.0 0) && path_apart path env v
 
 module _ (T : Tables) (p : Probe) (b : ℤ) where
-  abbrev pub asked_cost : Bool → List Reach → Env → Option Row → ℕ → ℕ
-  asked_cost sure order env None others = others
-  asked_cost sure order env (Some (OfDoc d)) others = cost_here T p b sure order env
-  asked_cost sure order env (Some (OfNote n)) others = 0
-
   -- are the next step's rows walked: unless the rest is looked for before, and there is none
   abbrev pub is_walked : Bool → List Reach → Env → Bool
   is_walked once order env = not once || rest_of T p.path b order env
@@ -81,10 +77,17 @@ module _ (T : Tables) (p : Probe) (b : ℤ) where
   abbrev pub once_cost : Bool → List Reach → Env → ℕ → ℕ
   once_cost once order env walk = (if once then rest_cost T p.path b order env else 0) + (if is_walked once order env then walk else 0)
 
+-- some documents are passed over, and nothing is evaluated for them
+module _ (passed : Doc → Bool) (T : Tables) (p : Probe) (b : ℤ) where
+  abbrev pub asked_cost : Bool → List Reach → Env → Option Row → ℕ → ℕ
+  asked_cost sure order env None others = others
+  asked_cost sure order env (Some (OfDoc d)) others = if passed d then 0 else cost_here T p b sure order env
+  asked_cost sure order env (Some (OfNote n)) others = 0
+
   -- the steps that this may take
   abbrev pub work_over : Bool → List Reach → Env → ℕ
   work_over sure [] env = asked_cost sure [] env (lookup 0 env) 0
   work_over sure (x ∷ rs) env =
       asked_cost sure (x ∷ rs) env (lookup 0 env) (cost_of (further p.path b env)
-      (λ r. once_cost (is_once p.path env rs r.var) (x ∷ rs) env
-      (total (λ row. 1 + work_over (is_once p.path env rs r.var) rs (bind r.var row env)) (rows_by b r.access env T))))
+      (λ r. once_cost T p b (is_once p.path env rs r.var) (x ∷ rs) env
+      (total (λ row. 1 + work_over (is_once p.path env rs r.var) rs (bind r.var row env)) (next_rows T p.path b env r))))

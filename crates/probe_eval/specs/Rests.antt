@@ -16,7 +16,8 @@ use Rattle.access_plan.specs.Accesses.{is_held}
 use Rattle.access_plan.specs.Laws.{AreSame}
 use Rattle.access_plan.specs.Nearest.{nearest}
 use Rattle.probe_eval.specs.Open.{path_apart, may_go}
-use Rattle.probe_eval.specs.Work.{rows_by, total}
+use Rattle.probe_eval.specs.StepRows.{next_rows}
+use Rattle.probe_eval.specs.Work.{total, until}
 
 -- the rest of a path exists beside the rows of env: each step has a row that arrived by b, that of env if there is one, and all guards are
 -- true
@@ -55,17 +56,12 @@ abbrev pub cost_of : Option Reach → (Reach → ℕ) → ℕ
 cost_of None f = 0
 cost_of (Some r) f = f r
 
--- the rows up to the first of which this is true
-abbrev pub until : {A : Type 0} → (A → Bool) → List A → List A
-until f [] = []
-until f (x ∷ xs) = x ∷ (if f x then [] else until f xs)
-
 module _ (T : Tables) (path : List Step) (b : ℤ) where
   -- whether it exists, as it is looked for: the nearest row next, of at most that many
   abbrev pub rest_of : List Reach → Env → Bool
   rest_of [] env = may_go path b env && all_or (nearest path env) (λ r. false)
   rest_of (x ∷ rs) env =
-      may_go path b env && all_or (nearest path env) (λ r. list_any (λ row. rest_of rs (bind r.var row env)) (rows_by b r.access env T))
+      may_go path b env && all_or (nearest path env) (λ r. list_any (λ row. rest_of rs (bind r.var row env)) (next_rows T path b env r))
 
   -- the row decides: the rest exists beside it, or it doesn't beside any other either, since no guard names the two
   abbrev pub decides : List Reach → Env → Var → Row → Bool
@@ -76,4 +72,4 @@ module _ (T : Tables) (path : List Step) (b : ℤ) where
   rest_cost [] env = 0
   rest_cost (x ∷ rs) env =
       cost_of (further path b env)
-      (λ r. total (λ row. 1 + rest_cost rs (bind r.var row env)) (until (decides rs env r.var) (rows_by b r.access env T)))
+      (λ r. total (λ row. 1 + rest_cost rs (bind r.var row env)) (until (decides rs env r.var) (next_rows T path b env r)))

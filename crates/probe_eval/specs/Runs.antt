@@ -35,8 +35,8 @@ part_order part = order_of part.probe.path part.probe.at.base
 abbrev pub part_hits : List Entry → Tables → Window → List TNode → Ranged → List Hit
 part_hits entries T w nodes part = seek_hits entries T w (probe_in nodes part.probe) (part_order part) part.seek (seek_var part.seek)
 
-abbrev pub part_cost : Tables → Window → List TNode → Ranged → ℕ
-part_cost T w nodes part = seek_cost T w (probe_in nodes part.probe) (part_order part) part.seek (seek_var part.seek)
+abbrev pub part_cost : List Entry → Tables → Window → List TNode → Ranged → ℕ
+part_cost entries T w nodes part = seek_cost entries T w (probe_in nodes part.probe) (part_order part) part.seek (seek_var part.seek)
 
 -- the hits of all parts
 abbrev pub query_hits : List Entry → Tables → Window → RangedQuery → List Hit
@@ -45,8 +45,8 @@ query_hits entries T w q = flat_map (part_hits entries T w q.pool) q.parts
 -- the bound on the steps of a run: for each driving row that is walked 1, the rows of the nearest accesses until a document has
 -- one, and for each document the search for the rest (one search for all if it is the same beside each) and the work of the body
 -- if the rest exists
-abbrev pub query_cost : Tables → Window → RangedQuery → ℕ
-query_cost T w q = total (part_cost T w q.pool) q.parts
+abbrev pub query_cost : List Entry → Tables → Window → RangedQuery → ℕ
+query_cost entries T w q = total (part_cost entries T w q.pool) q.parts
 
 -- each probe of the query is an `IsProbe`
 abbrev pub HasValidProbes : RangedQuery → Type 0

@@ -18,8 +18,8 @@ use row_index::RowIndex;
 use tap_base::{DocNum, Text};
 use tql_core::{Env, RowRef, Var, number, text};
 
-// Returns the number, if it has 32 bits.
-fn short(num: Option<i128>) -> Option<u32>
+/// Returns the number, if it has 32 bits.
+pub(crate) fn short(num: Option<i128>) -> Option<u32>
     ensures some { IfSome result (λ n. num ≡ Some (pos n)) }
     ensures none { result ≡ None → (k : ℕ) → k ≤ 4294967295 → both Eq (Some (pos k)) num ≡ false }
 {
@@ -89,8 +89,8 @@ fn with_subject<'a>(text: Option<&[u8]>, index: &'a RowIndex) -> RowWalk<'a>
     }
 }
 
-// Returns the references of the variable's row: none if it has no row, or that of a note.
-fn references_of<'a>(var: Var, env: &Env<'a>) -> &'a [Text]
+/// Returns the references of the variable's row: none if it has no row, or that of a note.
+pub(crate) fn references_of<'a>(var: Var, env: &Env<'a>) -> &'a [Text]
     ensures { result.now ≡ references_of var env.now }
 {
     match env.get(var) {
@@ -143,7 +143,7 @@ fn with_doc(num: Option<i128>, index: &RowIndex) -> RowWalk<'_>
 
 /// Returns the rows that an access reaches, of a whole table those that have arrived by `last`. A
 /// document whose message id is named twice among a row's references comes twice.
-pub fn rows_by<'a>(
+pub(crate) fn rows_by<'a>(
     access: AccessRef<'a>,
     last: i64,
     env: &Env<'a>,

@@ -8,7 +8,7 @@ ghost use Rattle.tql_core.specs.Holds.{truth};
 ghost use Rattle.tql_core.specs.Values.{bind};
 ghost use Rattle.probe_eval.specs.declared.answer.TruthOfRows.TheVariants.{Never};
 ghost use Rattle.probe_eval.specs.Answers.{is_true, IsNever, IsWhyFalse};
-ghost use Rattle.probe_eval.specs.Work.{work, total};
+ghost use Rattle.probe_eval.specs.Work.{work, exists_work};
 ghost use Rattle.probe_eval.specs.Conjuncts.{fixed_part, own_part};
 ghost use Rattle.probe_eval.specs.Searches.{condition_at, CanEvaluate, CanEvaluateInner, IsExists};
 
@@ -179,9 +179,8 @@ fn why_no_later<'a, L: Ledger>(
         (Exists var table (condition_at search.now inner.0)) env.now ≡ false
         → IfSome result (λ why.
         IsWhyFalse search.now (Exists var table (condition_at search.now inner.0)) env.now why.0) }
-    ensures steps { steps.new ≤ steps.old + total
-        (λ row. 1 + work search.now.index.now (condition_at search.now inner.0)
-        (bind var row env.now)) rows.entry }
+    ensures steps { steps.new ≤ steps.old + exists_work search.now.index.now var
+        (condition_at search.now inner.0) env.now rows.entry }
     ensures more { steps.old ≤ steps.new }
 {
     match rows.next(steps) {
@@ -219,9 +218,8 @@ fn any_own<'a, L: Ledger>(
     ensures truth { result ≡ list_any
         (λ row. truth search.now.index.now (pos 0) (own_part var (condition_at search.now inner.0))
         (bind var row env.now)) rows.entry }
-    ensures steps { steps.new ≤ steps.old + total
-        (λ row. 1 + work search.now.index.now (own_part var (condition_at search.now inner.0))
-        (bind var row env.now)) rows.entry }
+    ensures steps { steps.new ≤ steps.old + exists_work search.now.index.now var
+        (own_part var (condition_at search.now inner.0)) env.now rows.entry }
     ensures more { steps.old ≤ steps.new }
 {
     while let Some(row) = rows.next(steps) {

@@ -2,6 +2,7 @@
 //! about.
 
 ghost use Rattle.std.specs.Prelude.{◌≡◌, ◌+◌, ◌≤◌, [], Bool, None, IfSome};
+ghost use Rattle.tap_rows.specs.declared.rows.Doc.{Doc};
 ghost use Rattle.tql_core.specs.Values.{lookup};
 ghost use Rattle.probe_eval.specs.Nexts.{IsNearestIfKnown};
 ghost use Rattle.probe_eval.specs.Searches.{searched};
@@ -13,17 +14,19 @@ ghost use Rattle.probe_eval.specs.Walks.{CanWalk};
 use crate::open::path_apart;
 use crate::rests::{further_once, rest_exists};
 use crate::{Next, Search};
-use access_plan::{Reach, ReachRef};
+use access_plan::{AccessRef, Reach, ReachRef};
 use std::sync::ledger::Ledger;
 use tap_base::Steps;
 use time_marks::Step;
 use tql_core::{Env, Var};
 
-/// The rows of the step that is looked for next, the order that is left below them, and whether the
-/// rest of the path is sure to exist beside each that may go on.
+/// The rows of the step that is looked for next, the access by which they are walked, if guards
+/// give no other one beside rows of the same variables, the order that is left below them, and
+/// whether the rest of the path is sure to exist beside each that may go on.
 #[derive(Clone, Copy)]
 pub struct Level<'a> {
     pub reach: ReachRef<'a>,
+    pub sole: Option<AccessRef<'a>>,
     pub rest: &'a [Reach],
     pub sure: bool,
 }
@@ -99,18 +102,24 @@ pub fn next_level<'a, L: Ledger>(
         → hits_over search.now.seen.now search.now.index.now (searched search.now) mark
         order.now env.now ≡ [] }
     ensures next { IsNearestIfKnown search.now.probe.now.path env.now next.new }
-    ensures steps { (sure : Bool)
-        → steps.new + level_cost search.now.index.now (searched search.now) mark env.now result
-        ≤ steps.old
-        + work_over search.now.index.now (searched search.now) mark sure order.now env.now }
+    ensures steps { (passed : Doc → Bool) (sure : Bool) → steps.new
+        + level_cost passed search.now.index.now (searched search.now) mark env.now result
+        ≤ steps.old + work_over passed search.now.index.now (searched search.now) mark sure
+        order.now env.now }
     ensures more { steps.old ≤ steps.new }
 {
     let path = search.probe.path.as_slice();
     let (_, rest) = order.split_first()?;
     let reach = further_once(path, next, mark, env)?;
+    let sole = next.sole();
     let sure = is_once(path, env, rest, reach.var);
     if is_walked(search, order, next, sure, env, mark, steps) {
-        Some(Level { reach, rest, sure })
+        Some(Level {
+            reach,
+            sole,
+            rest,
+            sure,
+        })
     } else {
         None
     }

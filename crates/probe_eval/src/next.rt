@@ -1,11 +1,15 @@
 //! The step that is looked for next, found once for all rows of a level.
 
-ghost use Rattle.std.specs.Prelude.{◌≡◌, Option};
-ghost use Rattle.access_plan.specs.Views.{option_reach};
+ghost use Rattle.std.specs.Prelude.{◌≡◌, Option, List, Some, IfSome};
+ghost use Rattle.access_plan.specs.Views.{option_access, option_reach};
 ghost use Rattle.access_plan.specs.Nearest.{nearest};
-ghost use Rattle.probe_eval.specs.Nexts.{IsNearestIfKnown};
+ghost use Rattle.time_marks.specs.declared.mark.Step.{Step};
+ghost use Rattle.tql_core.specs.Values.{Env};
+ghost use Rattle.access_plan.specs.declared.reach.Reach.{Reach};
+ghost use Rattle.probe_eval.specs.Nexts.{IsNearestIfKnown, IsSole};
 
-use access_plan::{ReachRef, nearest};
+use crate::given::sole_access;
+use access_plan::{AccessRef, ReachRef, nearest};
 use time_marks::Step;
 use tql_core::Env;
 
@@ -13,7 +17,18 @@ use tql_core::Env;
 #[derive(Clone, Copy)]
 pub enum Next<'a> {
     Unknown,
-    Known(Option<ReachRef<'a>>),
+    Known(Option<ReachRef<'a>>, Option<AccessRef<'a>>),
+}
+
+// Returns the access by which the rows of the step are walked, if guards give no other one.
+fn sole_of<'a>(path: &'a [Step], reach: Option<ReachRef<'a>>, env: &Env) -> Option<AccessRef<'a>>
+    ensures { IfSome (option_reach reach.entry) (λ r.
+        IsSole path.now env.now r (option_access result)) }
+{
+    match reach {
+        None => None,
+        Some(reach) => sole_access(path, reach, env),
+    }
 }
 
 impl<'a> Next<'a> {
@@ -25,12 +40,24 @@ impl<'a> Next<'a> {
         ensures next { IsNearestIfKnown path.now env.now self.new }
     {
         match *self {
-            Next::Known(reach) => reach,
+            Next::Known(reach, _sole) => reach,
             Next::Unknown => {
                 let reach = nearest(path, env);
-                *self = Next::Known(reach);
+                *self = Next::Known(reach, sole_of(path, reach, env));
                 reach
             }
+        }
+    }
+
+    /// Returns the access by which the rows of the step are walked, if it was found that guards
+    /// give no other one beside rows of the same variables.
+    pub fn sole(&self) -> Option<AccessRef<'a>>
+        ensures { (path : List Step) (env : Env) (r : Reach) → IsNearestIfKnown path env self.now
+            → nearest path env ≡ Some r → IsSole path env r (option_access result) }
+    {
+        match *self {
+            Next::Known(_reach, sole) => sole,
+            Next::Unknown => None,
         }
     }
 }

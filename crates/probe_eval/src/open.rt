@@ -23,8 +23,8 @@ pub(crate) fn base_known(known: Known, base: Base) -> bool
     }
 }
 
-// Returns whether the variable of the number is known.
-fn number_known(known: Known, e: NumExpr) -> bool
+/// Returns whether the variable of the number is known.
+pub(crate) fn number_known(known: Known, e: NumExpr) -> bool
     ensures { result ≡ number_known (is_known known.entry) e }
 {
     match e {

@@ -1,6 +1,7 @@
 //! Whether the rest of a path exists beside some rows.
 
-ghost use Rattle.std.specs.Prelude.{◌≡◌, ◌+◌, ◌≤◌, length, Option};
+ghost use Rattle.std.specs.Prelude.{◌≡◌, ◌+◌, ◌≤◌, [], length, Option};
+ghost use Rattle.tap_rows.specs.declared.tables.Tables.{Tables};
 ghost use Rattle.access_plan.specs.Views.{option_reach};
 ghost use Rattle.probe_eval.specs.Nexts.{IsNearestIfKnown};
 ghost use Rattle.probe_eval.specs.Rests.{further, rest_of, rest_cost};
@@ -34,6 +35,43 @@ pub(crate) fn further_once<'a>(
     }
 }
 
+// Returns whether each step of the path has a row, arrived by the mark, and all guards are true.
+fn is_ended<'a>(path: &'a [Step], next: &mut Next<'a>, env: &Env<'a>, mark: i64) -> bool
+    requires { IsNearestIfKnown path.now env.now next.old }
+    ensures ended { (T : Tables) → result ≡ rest_of T path.now mark [] env.now }
+    ensures next { IsNearestIfKnown path.now env.now next.new }
+{
+    if may_go(path, mark, env) {
+        next.get(path, env).is_none()
+    } else {
+        false
+    }
+}
+
+/// Returns whether there are rows for the rest of the path, as `rest_exists` does. If no step is
+/// left, no level is made.
+pub(crate) fn rest_found<'a, L: Ledger>(
+    path: &'a [Step],
+    order: &'a [Reach],
+    next: &mut Next<'a>,
+    env: &Env<'a>,
+    mark: i64,
+    index: &'a RowIndex,
+    steps: &mut Steps<L>,
+) -> bool
+    requires room { length env.now + length order.now ≤ 16 }
+    requires next { IsNearestIfKnown path.now env.now next.old }
+    ensures exists { result ≡ rest_of index.now path.now mark order.now env.now }
+    ensures next { IsNearestIfKnown path.now env.now next.new }
+    ensures steps { steps.new ≤ steps.old + rest_cost index.now path.now mark order.now env.now }
+    ensures more { steps.old ≤ steps.new }
+{
+    match order.split_first() {
+        None => is_ended(path, next, env, mark),
+        Some(_) => rest_exists(path, order, next, env, mark, index, steps),
+    }
+}
+
 /// Returns whether there are rows for the rest of the path, arrived by the mark, with which all
 /// guards are true. It stops at the first row that decides: beside it the rest exists, or no guard
 /// names it and a row that is still looked for, so that there is no rest beside any other row of
@@ -63,7 +101,7 @@ pub(crate) fn rest_exists<'a, L: Ledger>(
         Some(reach) => match order.split_first() {
             None => false,
             Some((_, rest)) => {
-                let mut rows = rows_beside(path, reach, mark, env, index);
+                let mut rows = rows_beside(path, reach, next.sole(), mark, env, index);
                 let mut below = Next::Unknown;
                 while let Some(row) = rows.next(steps) {
                     let more = env.bind(reach.var, row);

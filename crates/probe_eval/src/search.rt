@@ -14,7 +14,7 @@ ghost use Rattle.probe_eval.specs.Walks.{CanWalk, CanAnswer};
 
 use crate::bodies::{body_answer, body_holds};
 use crate::open::may_go;
-use crate::rests::rest_exists;
+use crate::rests::rest_found;
 use crate::{Next, TruthOfRows};
 use access_plan::{Plan, Reach};
 use little_box::LittleBox;
@@ -67,7 +67,7 @@ fn has_rest<'a, L: Ledger>(
     if sure {
         may_go(path, mark, env)
     } else {
-        rest_exists(path, order, next, env, mark, search.index, steps)
+        rest_found(path, order, next, env, mark, search.index, steps)
     }
 }
 

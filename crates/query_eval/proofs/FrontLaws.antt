@@ -1,5 +1,5 @@
 -- Fronts of posting lists, and what a walk behind them leaves out.
-use Rattle.std.proofs.Common.{◌≡◌, ◌∙◌, ◌+◌, ◌≤◌, ℕ, ℤ, zero, suc, Bool, true, false, Option, Some, None, List, [], ◌∷◌, ◌++◌, map, take}
+use Rattle.std.proofs.Common.{◌≡◌, ◌∙◌, ◌+◌, ◌≤◌, ℕ, ℤ, zero, suc, Bool, true, Option, Some, None, List, [], ◌∷◌, ◌++◌, map, take}
 use Rattle.std.proofs.Common.{drop, refl, sym, ap, subst, inl, inr, arith}
 use Rattle.std.specs.Prelude.{◌≤ℤ◌, ◌⊎◌, IfSome, filter, length, slice_get, slice_set, option_to_list}
 use Rattle.std.specs.List.{flat_map}
@@ -23,15 +23,11 @@ use Rattle.row_index.specs.Orders.{IsRisingBy, InPlace, doc_number, doc_arrival,
 use Rattle.row_index.specs.Texts.{is_single, texts_of, with_text}
 use Rattle.row_index.proofs.SingleLists.{lists_of_one_kind_are_apart}
 use Rattle.probe_eval.specs.declared.search.Search.{Search}
-use Rattle.probe_eval.specs.LeftOut.{LeavesFalse}
 use Rattle.probe_eval.specs.Searches.{searched}
 use Rattle.probe_eval.specs.SingleLists.{IsSorted}
-use Rattle.probe_eval.specs.Open.{may_go}
 use Rattle.probe_eval.specs.Nested.{new_doc, hit_if, holds_here, hits_over}
 use Rattle.probe_eval.specs.Work.{total}
 use Rattle.probe_eval.proofs.HitSteps.{doc_hits}
-use Rattle.probe_eval.proofs.LeftOutLaws.{all_left, docs_as_rows, total_left}
-use Rattle.probe_eval.proofs.WalkedLaws.{none_over}
 use Rattle.query_eval.specs.declared.least_hits.LeastHits.{LeastHits}
 use Rattle.query_eval.specs.declared.fronts.Front.{Front}
 use Rattle.query_eval.specs.Lowest.{keeping}
@@ -207,55 +203,54 @@ known_here entries docs n kept kind text list first b len is number p =
     begins [] e = absurd (none_is e)
     begins (d ∷ ds) e = ap (λ (z : DocNum). z.0) (sym (num_is e))
 
--- all documents may be walked
-pub all_docs : (s : Search) (into : LeastHits) (b : ℤ) (v : Var) (env : Env) (docs left : List Doc) → left ≡ docs
-    → AreDocsBehind s into b v env docs left
-all_docs s into b v env docs left e = record {
-  passed = [];
-  others = docs;
-  docs_are = refl;
-  done = tt;
-  leaves = all_left (λ d. may_go s.probe.now.path b (bind v (OfDoc d) env)) docs left e;
+module _ {A : Type 0} (keeps : A → Bool) where
+  filter_append : (xs ys : List A) → filter keeps (xs ++ ys) ≡ filter keeps xs ++ filter keeps ys
+  filter_append [] ys = refl
+  filter_append (x ∷ xs) ys = elim (cases_Bool (keeps x)) [
+    | inl e ↦ rw e (ap (λ zs. x ∷ zs) (filter_append xs ys))
+    | inr e ↦ rw e (filter_append xs ys)
+  ]
+
+  each_kept : (P : A → Type 0) (xs : List A) → Each P xs → Each P (filter keeps xs)
+  each_kept P [] h = tt
+  each_kept P (x ∷ xs) h = elim (cases_Bool (keeps x)) [
+    | inl e ↦ rw e (h.0, each_kept P xs h.1)
+    | inr e ↦ rw e (each_kept P xs h.1)
+  ]
+
+-- documents behind a front that is done
+pub front_left : (s : Search) (into : LeastHits) (b : ℤ) (keeps : Doc → Bool) (docs : List Doc) (n : ℕ) (left : List Doc)
+    → AreDoneDocs s into b (take n docs) → left ≡ filter keeps (drop n docs) → AreDocsBehind s into b (filter keeps docs) left
+front_left s into b keeps docs n left h e = record {
+  passed = filter keeps (take n docs);
+  docs_are =
+      ap (filter keeps) (front_and_rest n docs) ∙ filter_append keeps (take n docs) (drop n docs)
+      ∙ ap (λ ds. filter keeps (take n docs) ++ ds) (sym e);
+  done = each_kept keeps (IsDone s.seen.now (length into.places.items) into.hits.items b) (take n docs) h;
 }
 
--- rows may be walked without some with which there is no way on
-pub behind_none : (s : Search) (into : LeastHits) (b : ℤ) (v : Var) (env : Env) (rows left : List Row)
-    → LeavesFalse (λ row. may_go s.probe.now.path b (bind v row env)) rows left → AreBehind s into b v env rows left
-behind_none s into b v env rows left k = record {
+-- all rows may be walked
+pub behind_none : (s : Search) (into : LeastHits) (b : ℤ) (v : Var) (rows left : List Row) → left ≡ rows → AreBehind s into b v rows left
+behind_none s into b v rows left e = record {
   passed = [];
-  others = rows;
-  rows_are = refl;
+  rows_are = sym e;
   done = tt;
-  leaves = k;
   query_var = inl refl;
 }
 
 -- documents of the query that are behind others are rows that are
-pub behind_docs : (s : Search) (into : LeastHits) (b : ℤ) (v : Var) (env : Env) (docs left : List Doc) (all rows : List Row) → v.0 ≡ 0
-    → all ≡ map OfDoc docs → rows ≡ map OfDoc left → AreDocsBehind s into b v env docs left → AreBehind s into b v env all rows
-behind_docs s into b v env docs left all rows z e l w = record {
+pub behind_docs : (s : Search) (into : LeastHits) (b : ℤ) (v : Var) (docs left : List Doc) (all rows : List Row) → v.0 ≡ 0
+    → all ≡ map OfDoc docs → rows ≡ map OfDoc left → AreDocsBehind s into b docs left → AreBehind s into b v all rows
+behind_docs s into b v docs left all rows z e l w = record {
   passed = w.passed;
-  others = map OfDoc w.others;
-  rows_are = e ∙ ap (map OfDoc) w.docs_are ∙ parts w.passed;
+  rows_are = e ∙ ap (map OfDoc) w.docs_are ∙ parts w.passed ∙ ap (λ rs. map OfDoc w.passed ++ rs) (sym l);
   done = w.done;
-  leaves = docs_as_rows (λ row. may_go s.probe.now.path b (bind v row env)) w.others left (map OfDoc w.others) rows refl l w.leaves;
   query_var = inr z;
 }
   where
-    parts : (ds : List Doc) → map OfDoc (ds ++ w.others) ≡ map OfDoc ds ++ map OfDoc w.others
+    parts : (ds : List Doc) → map OfDoc (ds ++ left) ≡ map OfDoc ds ++ map OfDoc left
     parts [] = refl
     parts (d ∷ ds) = ap (λ rs. OfDoc d ∷ rs) (parts ds)
-
--- what is made of rows without those of which nothing is made is what is made of all
-flat_kept : {A B : Type 0} (f : A → List B) (keeps : A → Bool) (xs : List A) → ((x : A) → In x xs → keeps x ≡ false → f x ≡ [])
-    → flat_map f xs ≡ flat_map f (filter keeps xs)
-flat_kept f keeps [] h = refl
-flat_kept f keeps (x ∷ xs) h =
-    let r = flat_kept f keeps xs (λ y i. h y (inr i)) in
-    elim (cases_Bool (keeps x)) [
-      | inl e ↦ rw e (ap (λ ys. f x ++ ys) r)
-      | inr e ↦ rw (e, h x (inl refl) e) r
-    ]
 
 -- no row that is left out changes what is stored
 module _ (s : Search) (into : LeastHits) (b : ℤ) (rest : List Reach) (env : Env) (v : Var) where
@@ -290,15 +285,11 @@ module _ (s : Search) (into : LeastHits) (b : ℤ) (rest : List Reach) (env : En
   all_passed passed others (inl e) h = ap (λ ds. stored (flat_map over (map OfDoc ds ++ others))) e
   all_passed passed others (inr z) h = passed_over z passed others h
 
-  pub behind_hits : (rows left : List Row) → AreBehind s into b v env rows left → keeping (length into.places.items)
+  pub behind_hits : (rows left : List Row) → AreBehind s into b v rows left → keeping (length into.places.items)
       into.hits.items (flat_map over rows) ≡ keeping (length into.places.items) into.hits.items (flat_map over left)
   behind_hits rows left w =
-      let none : (row : Row) → In row w.others → w.leaves.keeps row ≡ false
-      → over row ≡ [] = λ row i e. none_over s.seen.now s.index.now (searched s) b (bind v row env) (w.leaves.refused row i e) rest in
       ap (λ rs. stored (flat_map over rs)) w.rows_are
-      ∙ all_passed w.passed w.others w.query_var w.done
-      ∙ ap stored (flat_kept over w.leaves.keeps w.others none)
-      ∙ ap (λ rs. stored (flat_map over rs)) (sym w.leaves.left_are)
+      ∙ all_passed w.passed left w.query_var w.done
 
 -- nor does leaving out rows cost more
 module _ (cost : Row → ℕ) where
@@ -306,10 +297,9 @@ module _ (cost : Row → ℕ) where
   fewer_passed [] others = omega arith
   fewer_passed (d ∷ ds) others = let k = fewer_passed ds others in omega (arith, k)
 
-  pub behind_cost : (s : Search) (into : LeastHits) (b : ℤ) (v : Var) (env : Env) (rows left : List Row)
-      → AreBehind s into b v env rows left → total cost left ≤ total cost rows
-  behind_cost s into b v env rows left w =
+  pub behind_cost : (s : Search) (into : LeastHits) (b : ℤ) (v : Var) (rows left : List Row) → AreBehind s into b v rows left
+      → total cost left ≤ total cost rows
+  behind_cost s into b v rows left w =
       let r = ap (total cost) w.rows_are in
-      let l = total_left (λ row. may_go s.probe.now.path b (bind v row env)) w.others left w.leaves cost in
-      let g = fewer_passed w.passed w.others in
-      omega (arith, r, l, g)
+      let g = fewer_passed w.passed left in
+      omega (arith, r, g)

@@ -17,7 +17,9 @@ use Rattle.time_marks.specs.Views.{ranged_probes}
 use Rattle.query_eval.specs.Lowest.{with_lowered, lowest, has_place, with_hit, keeping}
 use Rattle.query_eval.specs.Placed.{IsPlaced}
 use Rattle.probe_eval.specs.Work.{total}
-use Rattle.probe_eval.specs.Runs.{query_hits, query_cost, HasValidProbes, HasNoMark, PathIsDocument, rows_due}
+use Rattle.probe_eval.specs.Runs.{query_hits, HasValidProbes, HasNoMark, PathIsDocument, rows_due}
+use Rattle.query_eval.specs.Driven.{parts_cost, run_cost}
+use Rattle.query_eval.proofs.TurnCosts.{run_less, run_stored}
 use Rattle.probe_eval.proofs.Members.{no_more}
 use Rattle.probe_eval.proofs.Founds.{query_found}
 use Rattle.probe_eval.proofs.QueryCosts.{query_quiet, query_due}
@@ -39,33 +41,37 @@ number_within n (x ∷ xs) d h (inr i) =
     let k = number_within (n + 1) xs d h.1 i in
     (omega (arith, k.0), omega (arith, k.1))
 
--- hits that the list of a plan's hits gives are stored
-pub hits_kept : (q : RangedQuery) (entries : List Entry) (T : Tables) (w : Window) (n : ℕ) (ks now : List Hit) → HasValidProbes q
-    → Numbered doc_number 1 T.docs → length T.docs ≤ n → ks ≡ [] → now ≡ keeping n ks (query_hits entries T w q)
-    → now ≡ lowest [] (query_hits entries T w q)
-hits_kept q entries T w n ks now ps num room none k =
-    k ∙ ap (λ z. keeping n z (query_hits entries T w q)) none ∙ all_placed n [] (query_hits entries T w q) placed
-  where
-    place : (doc : ℕ) → (1 ≤ doc) × (doc < 1 + length T.docs) → has_place n doc ≡ true
-    place doc b =
-        let l : nat_lt 0 doc ≡ true = low doc b.0 in
-        let h : nat_le doc n ≡ true = high doc b.1 in
-        rw (l, h) refl
-      where
-        low : (doc : ℕ) → 1 ≤ doc → nat_lt 0 doc ≡ true
-        low doc h = grind arith
+module _ (q : RangedQuery) (entries : List Entry) (T : Tables) (w : Window) (n : ℕ) (ps : HasValidProbes q)
+    (num : Numbered doc_number 1 T.docs) (room : length T.docs ≤ n) where
+  place : (doc : ℕ) → (1 ≤ doc) × (doc < 1 + length T.docs) → has_place n doc ≡ true
+  place doc b =
+      let l : nat_lt 0 doc ≡ true = low doc b.0 in
+      let h : nat_le doc n ≡ true = high doc b.1 in
+      rw (l, h) refl
+    where
+      low : (doc : ℕ) → 1 ≤ doc → nat_lt 0 doc ≡ true
+      low doc h = grind arith
 
-        high : (doc : ℕ) → doc < 1 + length T.docs → nat_le doc n ≡ true
-        high doc h = le doc (omega (arith, h, room))
-          where
-            le : (doc : ℕ) → doc ≤ n → nat_le doc n ≡ true
-            le doc h = grind arith
+      high : (doc : ℕ) → doc < 1 + length T.docs → nat_le doc n ≡ true
+      high doc h = le doc (omega (arith, h, room))
+        where
+          le : (doc : ℕ) → doc ≤ n → nat_le doc n ≡ true
+          le doc h = grind arith
 
-    placed : (h : Hit) → In h (query_hits entries T w q) → has_place n h.doc.0 ≡ true
-    placed h i =
-        let f = (query_found q ps entries T w).sound h i in
-        place h.doc.0
-        (subst (λ (z : DocNum). (1 ≤ z.0) × (z.0 < 1 + length T.docs)) (sym f.num) (number_within 1 T.docs f.doc num f.is_row))
+  -- the documents that a plan finds have places
+  placed : (h : Hit) → In h (query_hits entries T w q) → has_place n h.doc.0 ≡ true
+  placed h i =
+      let f = (query_found q ps entries T w).sound h i in
+      place h.doc.0 (subst (λ (z : DocNum). (1 ≤ z.0) × (z.0 < 1 + length T.docs)) (sym f.num) (number_within 1 T.docs f.doc num f.is_row))
+
+  -- so they are stored
+  pub hits_kept : (ks now : List Hit) → ks ≡ [] → now ≡ keeping n ks (query_hits entries T w q) → now ≡ lowest [] (query_hits entries T w q)
+  hits_kept ks now none k = k ∙ ap (λ z. keeping n z (query_hits entries T w q)) none ∙ all_placed n [] (query_hits entries T w q) placed
+
+  -- the steps that were taken are those of the run
+  pub taken_run : (old now : ℕ) (ks : List Hit) → ks ≡ [] → now ≤ old + parts_cost (keeping n) entries T w q.pool ks q.parts
+      → now ≤ old + run_cost entries T w q
+  taken_run old now ks none h = let k = run_stored entries T w n q ks none placed in omega (arith, h, k)
 
 -- the numbers below one
 abbrev below : ℕ → List ℕ
@@ -103,12 +109,11 @@ placed_fit hs ps h =
     there : (k : ℕ) → k < length hs → In k ps
     there k l = let x = get_some hs k l in let e = h k x.0 x.1 in get_in ps (x.0.doc.0 - 1) k e.2
 
-module _ (q : RangedQuery) (ps : HasValidProbes q) (T : Tables) (w : Window) where
-  -- the steps that were taken
-  pub taken_quiet : (old now : ℕ) → now ≤ old + query_cost T w q → old ≤ now → ((p : Probe) → In p (ranged_probes q) → HasNoMark T w p)
-      → now ≡ old
-  taken_quiet old now h k quiet = let z = query_quiet q ps T w quiet in omega (arith, h, k, z)
+module _ (q : RangedQuery) (ps : HasValidProbes q) (entries : List Entry) (T : Tables) (w : Window) where
+  pub taken_quiet : (old now : ℕ) → now ≤ old + run_cost entries T w q → old ≤ now
+      → ((p : Probe) → In p (ranged_probes q) → HasNoMark T w p) → now ≡ old
+  taken_quiet old now h k quiet = let r = run_less entries T w q in let z = query_quiet q ps entries T w quiet in omega (arith, h, k, r, z)
 
-  pub taken_due : (old now : ℕ) → now ≤ old + query_cost T w q → ((p : Probe) → In p (ranged_probes q) → PathIsDocument p)
+  pub taken_due : (old now : ℕ) → now ≤ old + run_cost entries T w q → ((p : Probe) → In p (ranged_probes q) → PathIsDocument p)
       → now ≤ old + total (rows_due T w) (ranged_probes q)
-  taken_due old now h alone = let z = query_due q ps T w alone in omega (arith, h, z)
+  taken_due old now h alone = let r = run_less entries T w q in let z = query_due q ps entries T w alone in omega (arith, h, r, z)

@@ -17,26 +17,26 @@ use Rattle.query_eval.proofs.HitSteps.{left_out}
 doc_is : (n m : ℕ) → nat_eq n m ≡ true → n ≡ m
 doc_is n m h = grind arith
 
-self_le : (x : ℤ) → int_le x x ≡ true
+pub self_le : (x : ℤ) → int_le x x ≡ true
 self_le x = grind (arith, ints)
 
 other_le : (x y : ℤ) → int_le x y ≡ false → int_le y x ≡ true
 other_le x y h = grind (arith, ints)
 
-le_after : (x y z : ℤ) → int_le x y ≡ true → int_le y z ≡ true → int_le x z ≡ true
+pub le_after : (x y z : ℤ) → int_le x y ≡ true → int_le y z ≡ true → int_le x z ≡ true
 le_after x y z h k = grind (arith, ints)
 
 le_is : (x y : ℤ) → x ≤ℤ y → int_le x y ≡ true
 le_is x y h = grind (arith, ints)
 
 -- lowering a hit keeps its document, and makes it no later
-lower_doc : (x g : Hit) → x.doc.0 ≡ g.doc.0 → (lower x g).doc.0 ≡ x.doc.0
+pub lower_doc : (x g : Hit) → x.doc.0 ≡ g.doc.0 → (lower x g).doc.0 ≡ x.doc.0
 lower_doc x g d = elim (cases_Bool (int_le x.first g.first)) [
   | inl l ↦ rw l refl
   | inr l ↦ rw l (sym d)
 ]
 
-lower_le : (x g : Hit) → int_le (lower x g).first x.first ≡ true
+pub lower_le : (x g : Hit) → int_le (lower x g).first x.first ≡ true
 lower_le x g = elim (cases_Bool (int_le x.first g.first)) [
   | inl l ↦ rw l (self_le x.first)
   | inr l ↦ rw l (other_le x.first g.first l)
@@ -51,10 +51,10 @@ unchanged_le x h e = elim (cases_Bool (int_le x.first h.first)) [
       subst (λ (y : Hit). int_le x.first y.first ≡ true) (sym e ∙ k) (self_le x.first)
 ]
 
-at_same : (x : Hit) (xs : List Hit) (g : Hit) → nat_eq x.doc.0 g.doc.0 ≡ true → with_lowered (x ∷ xs) g ≡ lower x g ∷ xs
+pub at_same : (x : Hit) (xs : List Hit) (g : Hit) → nat_eq x.doc.0 g.doc.0 ≡ true → with_lowered (x ∷ xs) g ≡ lower x g ∷ xs
 at_same x xs g q = rw q refl
 
-at_other : (x : Hit) (xs : List Hit) (g : Hit) → nat_eq x.doc.0 g.doc.0 ≡ false → with_lowered (x ∷ xs) g ≡ x ∷ with_lowered xs g
+pub at_other : (x : Hit) (xs : List Hit) (g : Hit) → nat_eq x.doc.0 g.doc.0 ≡ false → with_lowered (x ∷ xs) g ≡ x ∷ with_lowered xs g
 at_other x xs g q = rw q refl
 
 head_is : (x y : Hit) (xs ys : List Hit) → x ∷ xs ≡ y ∷ ys → x ≡ y
@@ -114,10 +114,10 @@ lowered_stays (x ∷ xs) h g e = elim (cases_Bool (nat_eq x.doc.0 h.doc.0)) [
       ]
 ]
 
-with_place : (n : ℕ) (kept : List Hit) (h : Hit) → has_place n h.doc.0 ≡ true → with_hit n kept h ≡ with_lowered kept h
+pub with_place : (n : ℕ) (kept : List Hit) (h : Hit) → has_place n h.doc.0 ≡ true → with_hit n kept h ≡ with_lowered kept h
 with_place n kept h p = rw p refl
 
-without_place : (n : ℕ) (kept : List Hit) (h : Hit) → has_place n h.doc.0 ≡ false → with_hit n kept h ≡ kept
+pub without_place : (n : ℕ) (kept : List Hit) (h : Hit) → has_place n h.doc.0 ≡ false → with_hit n kept h ≡ kept
 without_place n kept h p = rw p refl
 
 pub hit_later : (n : ℕ) (kept : List Hit) (h g : Hit) → h.doc.0 ≡ g.doc.0 → int_le h.first g.first ≡ true → with_hit n kept h ≡ kept

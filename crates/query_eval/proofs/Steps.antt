@@ -1,8 +1,7 @@
 -- One turn of a loop over rows whose hits are stored.
-use Rattle.std.proofs.Common.{◌≡◌, ◌∙◌, ℕ, ◌+◌, ◌≤◌, List, [], ◌∷◌, ◌++◌, length, refl, sym, ap, arith}
+use Rattle.std.proofs.Common.{◌≡◌, ◌∙◌, ℕ, List, [], ◌∷◌, ◌++◌, refl, sym, ap}
 use Rattle.std.specs.List.{flat_map}
 use Rattle.tap_rows.specs.declared.results.Hit.{Hit}
-use Rattle.probe_eval.specs.Work.{total}
 use Rattle.query_eval.specs.Lowest.{with_hit, keeping}
 
 pub keeping_append : (n : ℕ) (kept xs ys : List Hit) → keeping n kept (xs ++ ys) ≡ keeping n (keeping n kept xs) ys
@@ -21,8 +20,3 @@ module _ {A : Type 0} where
   pub hits_end : (f : A → List Hit) (whole : List Hit) (n k : ℕ) (kept now : List Hit) (rows left : List A) (r : A)
       → whole ≡ keeping n kept (flat_map f rows) → rows ≡ r ∷ left → now ≡ keeping n kept (f r) → k ≡ n → flat_map f left ≡ [] → now ≡ whole
   hits_end f whole n k kept now rows left r h e g q z = sym (hits_step f whole n k kept now rows left r h e g q ∙ ap (keeping k now) z)
-
-  -- each row takes a step of a bound that counts one and more
-  pub rows_within : (cost : A → ℕ) (rows : List A) → length rows ≤ total (λ x. 1 + cost x) rows
-  rows_within cost [] = omega arith
-  rows_within cost (x ∷ rows) = let k = rows_within cost rows in omega (arith, k)

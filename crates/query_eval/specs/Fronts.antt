@@ -6,13 +6,10 @@ use Rattle.tap_rows.specs.declared.results.Entry.{Entry}
 use Rattle.tap_rows.specs.Kept.{Each}
 use Rattle.tql_core.specs.declared.term.Var.{Var}
 use Rattle.tql_core.specs.Row.{Row, OfDoc}
-use Rattle.tql_core.specs.Values.{Env, bind}
 use Rattle.row_index.specs.declared.text_kind.TextKind.{TextKind}
 use Rattle.row_index.specs.Texts.{texts_of, with_text}
 use Rattle.probe_eval.specs.declared.search.Search.{Search}
-use Rattle.probe_eval.specs.LeftOut.{LeavesFalse}
 use Rattle.probe_eval.specs.Nested.{hit_if, new_doc}
-use Rattle.probe_eval.specs.Open.{may_go}
 use Rattle.query_eval.specs.declared.least_hits.LeastHits.{LeastHits}
 use Rattle.query_eval.specs.declared.fronts.Front.{Front}
 use Rattle.query_eval.specs.declared.fronts.Fronts.{Fronts}
@@ -55,19 +52,15 @@ pub record IsFrontOf (kind : TextKind) (first : ℕ) (b : ℤ) (front : Front) :
 abbrev pub AreDoneDocs : Search → LeastHits → ℤ → List Doc → Type 0
 AreDoneDocs s into b docs = Each (IsDone s.seen.now (length into.places.items) into.hits.items b) docs
 
--- the documents behind those that are done, without some with which there is no way on
-pub record AreDocsBehind (s : Search) (into : LeastHits) (b : ℤ) (v : Var) (env : Env) (docs left : List Doc) : Type 0 where
+-- the documents behind those that are done
+pub record AreDocsBehind (s : Search) (into : LeastHits) (b : ℤ) (docs left : List Doc) : Type 0 where
   pub passed : List Doc
-  pub others : List Doc
-  pub docs_are : docs ≡ passed ++ others
+  pub docs_are : docs ≡ passed ++ left
   pub done : AreDoneDocs s into b passed
-  pub leaves : LeavesFalse (λ d. may_go s.probe.now.path b (bind v (OfDoc d) env)) others left
 
--- the rows of a variable behind those of the query's documents that are done, without some with which there is no way on
-pub record AreBehind (s : Search) (into : LeastHits) (b : ℤ) (v : Var) (env : Env) (rows left : List Row) : Type 0 where
+-- the rows of a variable behind those of the query's documents that are done
+pub record AreBehind (s : Search) (into : LeastHits) (b : ℤ) (v : Var) (rows left : List Row) : Type 0 where
   pub passed : List Doc
-  pub others : List Row
-  pub rows_are : rows ≡ map OfDoc passed ++ others
+  pub rows_are : rows ≡ map OfDoc passed ++ left
   pub done : AreDoneDocs s into b passed
-  pub leaves : LeavesFalse (λ row. may_go s.probe.now.path b (bind v row env)) others left
   pub query_var : (passed ≡ []) ⊎ (v.0 ≡ 0)

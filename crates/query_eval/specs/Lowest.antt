@@ -1,5 +1,6 @@
 -- One hit a document, with its least second.
 use Rattle.std.specs.Prelude.{ℕ, Bool, ◌&&◌, List, [], ◌∷◌, nat_eq, nat_lt, nat_le, int_le, if◌then◌else◌}
+use Rattle.std.specs.List.{list_any}
 use Rattle.tap_rows.specs.declared.results.Hit.{Hit}
 
 -- the one of the lesser second
@@ -28,3 +29,7 @@ with_hit n kept h = if has_place n h.doc.0 then with_lowered kept h else kept
 abbrev pub keeping : ℕ → List Hit → List Hit → List Hit
 keeping n kept [] = kept
 keeping n kept (h ∷ hs) = keeping n (with_hit n kept h) hs
+
+-- is one of the hits of the same document, and no later?
+abbrev pub has_lower : List Hit → Hit → Bool
+has_lower hits h = list_any (λ x. nat_eq x.doc.0 h.doc.0 && int_le x.first h.first) hits

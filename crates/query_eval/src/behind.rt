@@ -1,19 +1,20 @@
 //! The rows of a level behind the front of their posting list.
 
-ghost use Rattle.std.specs.Prelude.{◌≡◌, true, length, take, slice_get, Some};
+ghost use Rattle.std.specs.Prelude.{◌≡◌, true, length, filter, take, slice_get, Some};
 ghost use Rattle.tap_rows.specs.declared.rows.Doc.{Doc};
-ghost use Rattle.tap_rows.specs.Kept.{Each};
-ghost use Rattle.access_plan.specs.Views.{access_at};
+ghost use Rattle.tql_core.specs.Row.{OfDoc};
+ghost use Rattle.access_plan.specs.Views.{option_access, reach_at};
+ghost use Rattle.probe_eval.specs.Nexts.{IsSole};
 ghost use Rattle.probe_eval.specs.SingleLists.{IsSingleList};
-ghost use Rattle.probe_eval.specs.Work.{rows_by};
+ghost use Rattle.probe_eval.specs.StepRows.{passes_step, next_rows};
 ghost use Rattle.query_eval.specs.Placed.{CanStoreHits};
 ghost use Rattle.query_eval.specs.Fronts.{IsDone, AreDone, AreDoneDocs, AreDocsBehind, AreBehind};
 
-use crate::fronts::{Front, Fronts};
+use crate::fronts::{Front, Fronts, LONG};
 use crate::least_hits::LeastHits;
-use access_plan::ReachRef;
+use access_plan::{AccessRef, ReachRef};
 use probe_eval::{
-    LONG, RowWalk, Search, SingleList, docs_beside, rows_beside, rows_by, single_list,
+    RowWalk, Search, SingleList, docs_beside, many_rows, rows_beside, single_list, step_access,
 };
 use row_index::PostingList;
 use tap_base::DocNum;
@@ -72,8 +73,44 @@ fn done_from(search: &Search, docs: &PostingList, len: usize, mark: i64, into: &
     done
 }
 
-// Returns the documents of the list with which there may be a way on to a hit that changes what is
-// stored. Of a long list those at its front are left out that are done, and the front is stored.
+// Returns how many documents at the front of a long list are done, and stores that. Of a short one
+// it says none.
+fn done_front<'a>(
+    search: &Search<'a>,
+    found: &SingleList<'a>,
+    mark: i64,
+    into: &LeastHits,
+    fronts: &mut Fronts,
+) -> usize
+    requires ready { CanStoreHits into.now }
+    requires list { IsSingleList search.now.index.now found.now }
+    requires fronts { AreDone search.now into.now fronts.old }
+    ensures done { AreDoneDocs search.now into.now mark (take result found.now.docs) }
+    ensures fronts { AreDone search.now into.now fronts.new }
+{
+    // Brings into scope that the documents' numbers are their places.
+    let _docs = search.index.docs();
+    if found.docs.len() < LONG {
+        return 0;
+    }
+    match found.docs.number(0) {
+        None => 0,
+        Some(first) => {
+            let known = fronts.done(found.kind, first, mark);
+            let len = done_from(search, &found.docs, known, mark, into);
+            fronts.put(Front {
+                kind: found.kind,
+                first: first.0,
+                mark,
+                len,
+            });
+            len
+        }
+    }
+}
+
+// Returns the documents of the list that are walked: those with which each guard is true that cuts
+// the list, and of a long list without those at its front that are done.
 fn docs_behind<'a>(
     search: &Search<'a>,
     found: SingleList<'a>,
@@ -86,53 +123,45 @@ fn docs_behind<'a>(
     requires ready { CanStoreHits into.now }
     requires list { IsSingleList search.now.index.now found }
     requires fronts { AreDone search.now into.now fronts.old }
-    ensures rows { AreDocsBehind search.now into.now mark var env.now found.entry.docs result }
+    ensures rows { AreDocsBehind search.now into.now mark
+        (filter (λ d. passes_step var mark env.now search.now.probe.now.path (OfDoc d))
+        found.entry.docs) result }
     ensures fronts { AreDone search.now into.now fronts.new }
 {
-    // Brings into scope that the documents' numbers are their places.
-    let _docs = search.index.docs();
-    let SingleList { kind, docs } = found;
-    if docs.len() < LONG {
-        return docs;
-    }
-    match docs.number(0) {
-        None => docs,
-        Some(first) => {
-            let known = fronts.done(kind, first, mark);
-            let len = done_from(search, &docs, known, mark, into);
-            fronts.put(Front {
-                kind,
-                first: first.0,
-                mark,
-                len,
-            });
-            docs_beside(search.probe.path.as_slice(), var, docs.skip(len), mark, env)
-        }
-    }
+    let len = done_front(search, &found, mark, into, fronts);
+    let path = search.probe.path.as_slice();
+    let docs = found.docs.skip(len);
+    docs_beside(path, var, docs, mark, env)
 }
 
-/// Returns the rows of the reach that may change what is stored, beside those of `env`, with this
-/// mark or a later one. Of a long posting list those are left out that the mark or a guard between
-/// numbers rules out, and of the query's documents those that are done at its front.
+/// Returns the rows of the reach that are walked, and may change what is stored, beside those of
+/// `env`, with this mark or a later one: of the query's documents on a long posting list without
+/// those that are done at its front.
 pub(crate) fn open_rows<'a>(
     search: &Search<'a>,
     reach: ReachRef<'a>,
+    sole: Option<AccessRef<'a>>,
     env: &Env<'a>,
     mark: i64,
     into: &LeastHits,
     fronts: &mut Fronts,
 ) -> RowWalk<'a>
+    requires sole { IsSole search.now.probe.now.path env.now
+        (reach_at reach) (option_access sole) }
     requires ready { CanStoreHits into.now }
     requires fronts { AreDone search.now into.now fronts.old }
-    ensures rows { AreBehind search.now into.now mark reach.entry.var env.now
-        (rows_by mark (access_at reach.entry.access) env.now search.now.index.now) result }
+    ensures rows { AreBehind search.now into.now mark reach.entry.var
+        (next_rows search.now.index.now search.now.probe.now.path mark
+        env.now (reach_at reach.entry)) result }
     ensures fronts { AreDone search.now into.now fronts.new }
 {
+    let path = search.probe.path.as_slice();
     if reach.var.0 != 0 {
-        return rows_beside(search.probe.path.as_slice(), reach, mark, env, search.index);
+        return rows_beside(path, reach, sole, mark, env, search.index);
     }
-    match single_list(reach.access, env, search.index) {
-        None => rows_by(reach.access, mark, env, search.index),
+    let access = step_access(path, reach, sole, env, search.index);
+    match single_list(access, env, search.index) {
+        None => many_rows(path, reach.var, access, mark, env, search.index),
         Some(found) => RowWalk::of_docs(docs_behind(
             search, found, reach.var, env, mark, into, fronts,
         ).walk()),

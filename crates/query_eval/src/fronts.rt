@@ -13,10 +13,13 @@ ghost use Rattle.tap_rows.specs.declared.results.Hit.{Hit};
 ghost use Rattle.tap_rows.specs.declared.results.Entry.{Entry};
 ghost use Rattle.query_eval.specs.Fronts.{IsPassed, IsFrontPassed, ArePassed, IsFrontOf};
 
-use probe_eval::LONG;
 use row_index::TextKind;
 use std::alloc::Global;
 use tap_base::{DocNum, Memory};
+
+/// How many documents a posting list has at least whose front is stored: to pass over those of a
+/// shorter one costs no more.
+pub(crate) const LONG: usize = 8;
 
 /// The front of the posting list of this kind that begins with this document: of its first `len`
 /// documents no hit with this mark or a later one changes what is stored.

@@ -1,13 +1,14 @@
 //! The hits of one probe.
 
-ghost use Rattle.std.specs.Prelude.{◌≡◌, ◌+◌, ◌≤◌, [], length, option_to_list};
+ghost use Rattle.std.specs.Prelude.{◌≡◌, ◌+◌, ◌≤◌, [], Some, length, option_to_list};
 ghost use Rattle.time_marks.specs.Seeks.{CanSeek};
 ghost use Rattle.query_eval.specs.Placed.{CanStoreHits, Stores};
 ghost use Rattle.query_eval.specs.Fronts.{AreDone};
 ghost use Rattle.probe_eval.specs.Nexts.{IsNearestIfKnown};
 ghost use Rattle.probe_eval.specs.Searches.{searched, CanSearch};
-ghost use Rattle.probe_eval.specs.Drivers.{seek_var, hits_at, seek_hits, cost_at, seek_cost};
-ghost use Rattle.query_eval.specs.Driven.{driven_hits, driven_cost};
+ghost use Rattle.probe_eval.specs.Drivers.{seek_var, hits_at, seek_hits, cost_at};
+ghost use Rattle.query_eval.specs.Driven.{driven_hits, is_settled, turn_cost};
+ghost use Rattle.query_eval.specs.Lowest.{keeping};
 
 use crate::fronts::Fronts;
 use crate::least_hits::LeastHits;
@@ -42,8 +43,9 @@ fn collect_at<'a, L: Ledger>(
     ensures ready { CanStoreHits into.new }
     ensures places { length into.new.places.items ≡ length into.old.places.items }
     ensures fronts { AreDone search.now into.new fronts.new }
-    ensures steps { steps.new
-        ≤ steps.old + cost_at search.now.index.now w (searched search.now) order.now env.now }
+    ensures steps { steps.new ≤ steps.old
+        + cost_at (is_settled search.now.seen.now into.old.hits.items) search.now.index.now w
+        (searched search.now) order.now env.now }
     ensures more { steps.old ≤ steps.new }
 {
     if let Some(mark) = mark_in(w, value(search.probe.at, env)) {
@@ -73,8 +75,9 @@ fn collect_driven<'a, L: Ledger>(
     ensures ready { CanStoreHits into.new }
     ensures places { length into.new.places.items ≡ length into.old.places.items }
     ensures fronts { AreDone search.now into.new fronts.new }
-    ensures steps { steps.new
-        ≤ steps.old + driven_cost search.now.index.now w (searched search.now) order.now seek var }
+    ensures steps { steps.new ≤ steps.old + turn_cost (keeping (length into.old.places.items))
+        search.now.seen.now search.now.index.now w
+        (searched search.now) order.now into.old.hits.items seek (Some var) }
     ensures more { steps.old ≤ steps.new }
 {
     let mut rows = walked(search, seek, var, w);
@@ -116,8 +119,9 @@ fn collect_walked<'a, L: Ledger>(
     ensures ready { CanStoreHits into.new }
     ensures places { length into.new.places.items ≡ length into.old.places.items }
     ensures fronts { AreDone search.now into.new fronts.new }
-    ensures steps { steps.new
-        ≤ steps.old + driven_cost search.now.index.now w (searched search.now) order.now seek var }
+    ensures steps { steps.new ≤ steps.old + turn_cost (keeping (length into.old.places.items))
+        search.now.seen.now search.now.index.now w
+        (searched search.now) order.now into.old.hits.items seek (Some var) }
     ensures more { steps.old ≤ steps.new }
 {
     if goes_by_list(search, seek, var) {
@@ -148,8 +152,9 @@ pub(crate) fn collect_part<'a, L: Ledger>(
     ensures ready { CanStoreHits into.new }
     ensures places { length into.new.places.items ≡ length into.old.places.items }
     ensures fronts { AreDone search.now into.new fronts.new }
-    ensures steps { steps.new ≤ steps.old
-        + seek_cost search.now.index.now w (searched search.now) order.now seek (seek_var seek) }
+    ensures steps { steps.new ≤ steps.old + turn_cost (keeping (length into.old.places.items))
+        search.now.seen.now search.now.index.now w
+        (searched search.now) order.now into.old.hits.items seek (seek_var seek) }
     ensures more { steps.old ≤ steps.new }
 {
     match seek_var(seek) {

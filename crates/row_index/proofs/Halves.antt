@@ -63,7 +63,7 @@ module _ {A : Type 0} (f : A → ℤ) where
   le_self : (x : ℤ) → int_le x x ≡ true
   le_self x = grind (arith, ints)
 
-  rising_at : (xs : List A) (i j : ℕ) (d : A) → IsRisingBy f xs → i ≤ j → j < length xs
+  pub rising_at : (xs : List A) (i j : ℕ) (d : A) → IsRisingBy f xs → i ≤ j → j < length xs
       → int_le (f (slice_index_or xs i d)) (f (slice_index_or xs j d)) ≡ true
   rising_at [] i j d r a w = absurd (omega (arith, w))
   rising_at (x ∷ xs) zero zero d r a w = le_self (f x)

@@ -1,5 +1,6 @@
 mod FromEnd
 pub mod Halves
+pub mod ListCutLaws
 pub mod InPlaces
 pub mod Entries
 pub mod PostLaws

@@ -48,6 +48,11 @@ module _ {A B : Type 0} (f : A → ℤ) (g : B → ℤ) (h : A → B) where
   length_mapped [] = refl
   length_mapped (x ∷ xs) = ap (λ n. suc n) (length_mapped xs)
 
+-- as many as there are
+pub mapped_length : {A B : Type 0} (h : A → B) (xs : List A) → length (map h xs) ≡ length xs
+mapped_length h [] = refl
+mapped_length h (x ∷ xs) = ap (λ n. suc n) (mapped_length h xs)
+
 -- a document stands at its own place
 abbrev pub IsOwn : List Doc → Doc → Type 0
 IsOwn all doc = slice_get all (doc_number doc - 1) ≡ Some doc

@@ -1,5 +1,6 @@
 pub mod Walks
 pub mod Orders
+pub mod Cuts
 pub mod Rows
 pub mod Places
 pub mod Posts

@@ -2,6 +2,7 @@
 #![tactic(auto)]
 
 mod arrivals;
+mod cut;
 mod dates;
 mod doc_places;
 mod doc_texts;
@@ -16,6 +17,7 @@ mod row_index;
 mod text_kind;
 mod walk;
 
+pub use cut::{Limit, ListCut, Order};
 pub use posting_list::PostingList;
 pub use row_index::RowIndex;
 pub use text_kind::TextKind;

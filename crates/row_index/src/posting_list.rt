@@ -1,11 +1,13 @@
 //! Documents of a posting list.
 
-ghost use Rattle.std.specs.Prelude.{◌≡◌, length, drop, slice_get};
+ghost use Rattle.std.specs.Prelude.{◌≡◌, length, drop, filter, slice_get};
+ghost use Rattle.row_index.specs.Cuts.{rank, keeps};
 ghost use Rattle.row_index.specs.Walks.{ArePlaces, at_places};
 ghost use Rattle.row_index.specs.Orders.{IsRisingBy, doc_arrival, doc_rank, doc_num, up_to};
 ghost use Rattle.row_index.specs.Orders.{above_number, below_number};
 
 use crate::arrivals::places_up_to;
+use crate::cut::{ListCut, places_cut};
 use crate::numbers::{places_above, places_below};
 use crate::walk::{DocWalk, Walk};
 use std::marker::Model;
@@ -110,6 +112,17 @@ impl<'a> PostingList<'a> {
         PostingList {
             docs: self.docs,
             places: places_below(self.docs, self.places, num),
+        }
+    }
+
+    /// Returns the documents that pass the comparison, by halving.
+    pub fn cut(self, cut: ListCut) -> PostingList<'a>
+        requires { IsRisingBy (rank cut.order) self }
+        ensures { result ≡ filter (keeps cut) self.entry }
+    {
+        PostingList {
+            docs: self.docs,
+            places: places_cut(self.docs, self.places, cut),
         }
     }
 

@@ -210,6 +210,13 @@ impl RowIndex {
         Walk::placed(&self.notes, self.on_doc.under(doc.0))
     }
 
+    /// Returns how many notes are on this document, by one look-up and without a step.
+    pub fn count_on(&self, doc: DocNum) -> usize
+        ensures { result ≡ length (indexed_notes doc.0 self.now.notes) }
+    {
+        self.on_doc.under(doc.0).len()
+    }
+
     /// Returns the notes that arrived from `low` up to but not at `high`.
     pub fn notes_arrived(&self, low: i64, high: i64) -> NoteWalk<'_>
         ensures { result ≡ in_window note_arrival low high self.now.notes }

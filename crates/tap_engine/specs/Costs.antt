@@ -19,7 +19,7 @@ use Rattle.tap_model.specs.Lookups.{notes_on}
 use Rattle.tap_model.specs.WindowRuns.{asked_rows, found_since}
 use Rattle.wake_plan.specs.Wakes.{wake_window}
 use Rattle.tap_kept.specs.declared.cached_query.CachedQuery.{CachedQuery}
-use Rattle.tap_kept.specs.Costs.{NoProbeHasMark, AreAlone, query_rows_due, query_work, window_since, work_ahead, ask_work}
+use Rattle.tap_kept.specs.Costs.{NoProbeHasMark, AreAlone, query_rows_due, apart_work, query_work, window_since, work_ahead, ask_work}
 use Rattle.tap_engine.specs.declared.engine.Engine.{Engine}
 use Rattle.tap_engine.specs.Standing.{OverTables}
 
@@ -79,7 +79,8 @@ TakesRowsDue engine command before steps =
 -- the steps that a run of this query may take
 abbrev pub run_work : Option QueryRow → Session → Tables → ℕ
 run_work None session tables = 0
-run_work (Some query) session tables = query_work (asked_rows tables) (next_window tables query (moment_or_zero session)) query
+run_work (Some query) session tables =
+    query_work (delivered query.num.0 tables) (asked_rows tables) (next_window tables query (moment_or_zero session)) query
 
 -- from the second that the query has covered up to and with the least mark at which a run would deliver
 abbrev pub wake_window_of : Tables → QueryRow → Window
@@ -88,7 +89,8 @@ wake_window_of tables query = wake_window (covered (start_of query) query.num.0 
 -- the steps that looking for the next moment of this query may take: those up to that mark, and one for each probe
 abbrev pub wake_work : Option QueryRow → Tables → ℕ
 wake_work None tables = 0
-wake_work (Some query) tables = length (probes_of_query query) + query_work (asked_rows tables) (wake_window_of tables query) query
+wake_work (Some query) tables =
+    length (probes_of_query query) + apart_work (delivered query.num.0 tables) (asked_rows tables) (wake_window_of tables query) query
 
 -- a step for each entry of this query's box
 abbrev pub list_work : Option QueryRow → Tables → ℕ
@@ -112,9 +114,9 @@ abbrev pub question_work : Option ℤ → List ℕ → Tables → ℕ
 question_work None source tables = 0
 question_work (Some second) source tables = ask_work (asked_rows tables) (condition_in source) second
 
--- the most steps that a command may take: of a run `query_work` in its window; of `wake` the same up to the least mark at which a
--- run would deliver, and one for each probe; of `list` one for each entry, of `digest` one for each entry of the run; of `ask`
--- one for each document and note; of any other none
+-- the most steps that a command may take: of a run `query_work` in its window; of `wake` those of each probe on its own up to the
+-- least mark at which a run would deliver, and one for each probe; of `list` one for each entry, of `digest` one for each entry of
+-- the run; of a look-up `lookup_work`; of `ask` those of a run of its second; of any other none
 abbrev pub most_steps : Command → Session → Tables → ℕ
 most_steps (Run name) session tables = run_work (query_named (user_of session) name tables) session tables
 most_steps (Wake name) session tables = wake_work (query_named (user_of session) name tables) tables
@@ -140,7 +142,7 @@ pub record TakesFewSteps (engine : Engine) (command : Command) (before steps : �
 -- the same, by what is cached of the query that a command names
 abbrev pub cached_run_work : Engine → Option CachedQuery → ℕ
 cached_run_work engine None = 0
-cached_run_work engine (Some kept) = query_work engine.index (window_since kept (moment_or_zero engine.session)) kept.row
+cached_run_work engine (Some kept) = query_work kept.entries engine.index (window_since kept (moment_or_zero engine.session)) kept.row
 
 abbrev pub cached_wake_work : Engine → Option CachedQuery → ℕ
 cached_wake_work engine None = 0

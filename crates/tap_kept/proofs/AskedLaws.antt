@@ -1,5 +1,5 @@
 -- A question is a run of its second.
-use Rattle.std.proofs.Common.{◌≡◌, ◌∙◌, sym, ap, subst, ℕ, ◌+◌, ◌≤◌, ℤ, pos, ◌+ℤ◌, ◌≤ℤ◌, List, [], map}
+use Rattle.std.proofs.Common.{◌≡◌, ◌∙◌, ap, subst, ℕ, ◌+◌, ◌≤◌, ℤ, pos, ◌+ℤ◌, ◌≤ℤ◌, List, [], map}
 use Rattle.tap_rows.specs.declared.tables.Tables.{Tables}
 use Rattle.tap_rows.specs.declared.results.Entry.{Entry}
 use Rattle.tap_rows.specs.declared.results.Hit.{Hit}
@@ -11,7 +11,7 @@ use Rattle.time_marks.specs.declared.ranged_query.RangedQuery.{RangedQuery}
 use Rattle.time_marks.specs.Probes.{Probe, meaning_without}
 use Rattle.time_marks.specs.Views.{ranged_probes}
 use Rattle.probe_eval.specs.Nested.{was_seen}
-use Rattle.probe_eval.specs.Runs as runs
+use Rattle.query_eval.specs.Driven.{run_cost}
 use Rattle.tap_model.proofs.AskLaws.{asks_are_runs}
 use Rattle.tap_model.specs.Asks.{given_docs, window_of_second}
 use Rattle.tap_model.specs.Queries.{probes_from}
@@ -28,9 +28,9 @@ given-docs c s T w none X hits query positive arrived empty is at found =
     ∙ ap (meaning_without (was_seen []) (probes_from c s) T) at)
     ∙ asks_are_runs c s T query positive arrived
 
-pub given-steps : (c : Condition) (s : ℤ) (T : Tables) (w : Window) (q : RangedQuery) (new old : ℕ) → ranged_probes q
-    ≡ probes_from c s → w ≡ window_of_second s
-    → new ≤ old + runs.query_cost T w q → new ≤ old + ask_work T c s
-given-steps c s T w q new old is at le =
-    subst (λ n. new ≤ old + n) (ap (λ z. runs.query_cost T z q) at
-    ∙ work-is T (window_of_second s) q (probes_from c s) is) le
+pub given-steps : (c : Condition) (s : ℤ) (T : Tables) (w : Window) (none : List Entry) (q : RangedQuery) (new old : ℕ) → none ≡ []
+    → ranged_probes q ≡ probes_from c s → w ≡ window_of_second s
+    → new ≤ old + run_cost none T w q → new ≤ old + ask_work T c s
+given-steps c s T w none q new old empty is at le =
+    subst (λ n. new ≤ old + n) (ap (λ es. run_cost es T w q) empty ∙ ap (λ z. run_cost [] T z q) at
+    ∙ work-is [] T (window_of_second s) q (probes_from c s) is) le

@@ -66,8 +66,8 @@ impl CachedQuery {
         ensures hits { hits.new.hits ≡ hits_since self.now index.now moment }
         ensures new { AreNew self.now.entries hits.new.hits }
         ensures room { hits.new.room ≡ hits.old.room }
-        ensures steps { steps.new
-            ≤ steps.old + query_work index.now (window_since self.now moment) self.now.row }
+        ensures steps { steps.new ≤ steps.old
+            + query_work self.now.entries index.now (window_since self.now moment) self.now.row }
         ensures quiet { NoProbeHasMark index.now (window_since self.now moment) self.now.row
             → steps.new ≡ steps.old }
         ensures due { AreAlone self.now.row → steps.new

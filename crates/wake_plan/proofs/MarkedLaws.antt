@@ -4,6 +4,7 @@ use Rattle.std.proofs.Common.{subst, inl, inr, arith}
 use Rattle.std.specs.Prelude.{◌⊎◌, filter, option_to_list, if◌then◌else◌}
 use Rattle.std.proofs.lemmas.Bool.{cases_Bool}
 use Rattle.tap_rows.specs.declared.tables.Tables.{Tables}
+use Rattle.tap_rows.specs.declared.results.Entry.{Entry}
 use Rattle.tap_rows.specs.Kept.{In}
 use Rattle.tql_core.specs.declared.term.Var.{Var}
 use Rattle.tql_core.specs.declared.term.Base.{Base}
@@ -143,10 +144,10 @@ module _ {A : Type 0} where
       go n a b s t p q = omega (arith, p, q)
 
 -- what a planner over such probes costs
-pub plain_cost : (q : RangedQuery) → HasValidProbes q → (T : Tables) (u : Window) → ((p : Probe) → In p (ranged_probes q) → IsPlain p)
-    → length q.parts + query_cost T u q ≤ marked_ahead T u (ranged_probes q)
-plain_cost q ps T u plain =
-    let a = query_due q ps T u (λ p i. (plain p i).0) in
+pub plain_cost : (q : RangedQuery) → HasValidProbes q → (entries : List Entry) (T : Tables) (u : Window)
+    → ((p : Probe) → In p (ranged_probes q) → IsPlain p) → length q.parts + query_cost entries T u q ≤ marked_ahead T u (ranged_probes q)
+plain_cost q ps entries T u plain =
+    let a = query_due q ps entries T u (λ p i. (plain p i).0) in
     let b = total_more (rows_due T u) (marked T u) (ranged_probes q) (λ p i. due_marked T u p (ps p i) (plain p i)) in
     let c = length_map (λ part. probe_in q.pool part.probe) q.parts in
     omega (arith, a, b, c)

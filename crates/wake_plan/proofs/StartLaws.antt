@@ -12,6 +12,7 @@ use Rattle.time_marks.specs.Probes.{Probe}
 use Rattle.time_marks.specs.Seeks.{seek_of, seek_window, lies_in}
 use Rattle.time_marks.proofs.Lists.{map_in}
 use Rattle.probe_eval.specs.Drivers.{seek_var, walked, hits_at, cost_at, seek_hits, seek_cost}
+use Rattle.probe_eval.specs.Nested.{was_seen}
 use Rattle.probe_eval.specs.Searches.{searched, HasBody, HasSlots}
 use Rattle.probe_eval.specs.Tables.{table_in}
 use Rattle.probe_eval.specs.Work.{total}
@@ -69,14 +70,16 @@ module _ (w : Window) (t : Turn) (rows : List Row)
       ∙ ap (flat_map (λ row. hits_at t.search.seen.now t.search.index.now w p t.order.now (bind t.var row []))) all
       ∙ walked_hits t.search.index.now w p (seek_of p.at) t.var t.search.seen.now t.order.now
 
-  pub started_cost : (u : Window) → IsUpTo w u → cost_left u t ≡ seek_cost t.search.index.now u p t.order.now (seek_of p.at) (Some t.var)
+  pub started_cost : (u : Window) → IsUpTo w u
+      → cost_left u t ≡ seek_cost t.search.seen.now t.search.index.now u p t.order.now (seek_of p.at) (Some t.var)
   started_cost u k =
-      ap (λ z. total (λ env. 1 + cost_at t.search.index.now u p t.order.now env) (filter (λ env. lies_in u (value p.at env)) z))
-      (left_rows ∙ ap (bound_alone t.var) all)
-      ∙ ap (total (λ env. 1 + cost_at t.search.index.now u p t.order.now env)) (walked_narrow t.search.index.now w u p t.var k bounded e)
-      ∙ total_map (λ env. 1 + cost_at t.search.index.now u p t.order.now env) (λ row. bind t.var row [])
+      ap (λ z. total (λ env. 1 + cost_at (λ b. was_seen t.search.seen.now) t.search.index.now u p t.order.now env)
+      (filter (λ env. lies_in u (value p.at env)) z)) (left_rows ∙ ap (bound_alone t.var) all)
+      ∙ ap (total (λ env. 1 + cost_at (λ b. was_seen t.search.seen.now) t.search.index.now u p t.order.now env))
+      (walked_narrow t.search.index.now w u p t.var k bounded e)
+      ∙ total_map (λ env. 1 + cost_at (λ b. was_seen t.search.seen.now) t.search.index.now u p t.order.now env) (λ row. bind t.var row [])
       (walked t.search.index.now u p (seek_of p.at) t.var)
 
   pub started_steps : (s taken : ℕ) (u : Window) → IsUpTo w u → taken ≤ s + 1
-      → taken + cost_left u t ≤ s + (1 + seek_cost t.search.index.now u p t.order.now (seek_of p.at) (Some t.var))
+      → taken + cost_left u t ≤ s + (1 + seek_cost t.search.seen.now t.search.index.now u p t.order.now (seek_of p.at) (Some t.var))
   started_steps s taken u k h = let c = started_cost u k in omega (arith, h, c)

@@ -6,6 +6,7 @@ use Rattle.std.specs.List.{flat_map}
 use Rattle.std.proofs.lemmas.Int.{ints}
 use Rattle.std.proofs.lemmas.Bool.{cases_Bool, false≢true}
 use Rattle.tap_base.specs.declared.numbers.DocNum.{DocNum}
+use Rattle.tap_rows.specs.declared.rows.Doc.{Doc}
 use Rattle.tap_rows.specs.declared.tables.Tables.{Tables}
 use Rattle.tap_rows.specs.declared.results.Hit.{Hit}
 use Rattle.tap_rows.specs.declared.results.Entry.{Entry}
@@ -20,9 +21,10 @@ use Rattle.time_marks.specs.Probes.{Probe}
 use Rattle.time_marks.proofs.Lists.{in_left}
 use Rattle.access_plan.specs.declared.reach.Reach.{Reach}
 use Rattle.probe_eval.specs.Drivers.{mark_in, marked_hits, hits_at, marked_cost, cost_at}
-use Rattle.probe_eval.specs.Nested.{hit_if, over_rows, asked_or, hits_over, new_doc, holds_here, work_over}
+use Rattle.probe_eval.specs.Nested.{was_seen, hit_if, over_rows, asked_or, hits_over, new_doc, holds_here, work_over}
 use Rattle.probe_eval.specs.Rests.{further}
-use Rattle.probe_eval.specs.Work.{rows_by, total}
+use Rattle.probe_eval.specs.StepRows.{next_rows}
+use Rattle.probe_eval.specs.Work.{total}
 use Rattle.probe_eval.specs.Searches.{searched}
 use Rattle.probe_eval.proofs.Members.{from_flat}
 use Rattle.wake_plan.specs.declared.due.DrivingRow.{DrivingRow}
@@ -57,9 +59,9 @@ module _ (entries : List Entry) (T : Tables) (p : Probe) (b : ℤ) where
   asked_first order env (Some (OfNote n)) others h f i = absurd i
 
   over_first : (env : Env) (o : Option Reach) (f : Reach → Row → List Hit) (h : Hit)
-      → ((r : Reach) (row : Row) (k : Hit) → In k (f r row) → k.first ≡ b) → In h (over_rows T b env o f) → h.first ≡ b
+      → ((r : Reach) (row : Row) (k : Hit) → In k (f r row) → k.first ≡ b) → In h (over_rows T p.path b env o f) → h.first ≡ b
   over_first env None f h g i = absurd i
-  over_first env (Some r) f h g i = let x = from_flat (f r) (rows_by b r.access env T) h i in g r x.0 h x.2
+  over_first env (Some r) f h g i = let x = from_flat (f r) (next_rows T p.path b env r) h i in g r x.0 h x.2
 
   pub hits_first : (order : List Reach) (env : Env) (h : Hit) → In h (hits_over entries T p b order env) → h.first ≡ b
   hits_first [] env h i = asked_first [] env (lookup 0 env) [] h (λ k j. absurd j) i
@@ -143,15 +145,15 @@ module _ (w : Window) (p : Probe) (v : Var) where
   next_ahead (row ∷ rows) r = let k = due_is (bind v row []) r.0 in subst (λ o. IsAhead p o rows) (sym k.2) k.1
 
 -- the cost of the row that was read ahead comes first
-module _ (T : Tables) (u : Window) (p : Probe) (order : List Reach) where
+module _ (passed : ℤ → Doc → Bool) (T : Tables) (u : Window) (p : Probe) (order : List Reach) where
   pub cost_part : (due : DrivingRow) (envs : List Env) → value p.at due.env ≡ Some due.mark → lies_in u (Some due.mark) ≡ true
-      → total (λ env. 1 + cost_at T u p order env) (filter (λ env. lies_in u (value p.at env)) (due.env ∷ envs))
-      ≡ (1 + work_over T p due.mark false order due.env)
-      + total (λ env. 1 + cost_at T u p order env) (filter (λ env. lies_in u (value p.at env)) envs)
+      → total (λ env. 1 + cost_at passed T u p order env) (filter (λ env. lies_in u (value p.at env)) (due.env ∷ envs))
+      ≡ (1 + work_over (passed due.mark) T p due.mark false order due.env)
+      + total (λ env. 1 + cost_at passed T u p order env) (filter (λ env. lies_in u (value p.at env)) envs)
   cost_part due envs e l =
       let k : lies_in u (value p.at due.env) ≡ true = ap (lies_in u) e ∙ l in
-      let c : cost_at T u p order due.env ≡ work_over T p due.mark false order due.env =
-      ap (marked_cost T u p order due.env) (in_mark u (value p.at due.env) due.mark e k) in
+      let c : cost_at passed T u p order due.env ≡ work_over (passed due.mark) T p due.mark false order due.env =
+      ap (marked_cost passed T u p order due.env) (in_mark u (value p.at due.env) due.mark e k) in
       rw (k, c) refl
 
 -- the least mark of what is found beside the row that was read ahead
@@ -210,13 +212,13 @@ module _ (w : Window) (t : Turn) (h : IsTurn w t) (due : DrivingRow) (e : t.next
 
   pub gone_cost : (u : Window) → lies_in u (Some due.mark) ≡ true → cost_left u t ≡ (1 + due_cost t t.next) + cost_left u (passed w t)
   gone_cost u l =
-      ap (λ z. total (λ env. 1 + cost_at t.search.index.now u (searched t.search) t.order.now env)
+      ap (λ z. total (λ env. 1 + cost_at (λ b. was_seen t.search.seen.now) t.search.index.now u (searched t.search) t.order.now env)
       (filter (λ env. lies_in u (value t.search.probe.now.at env)) z)) left_is
-      ∙ cost_part t.search.index.now u (searched t.search) t.order.now due others ahead_is l
-      ∙ ap (λ o. (1 + due_cost t o) + total (λ env. 1 + cost_at t.search.index.now u (searched t.search) t.order.now env)
-      (filter (λ env. lies_in u (value t.search.probe.now.at env)) others)) (sym e)
-      ∙ ap (λ z. (1 + due_cost t t.next) + total (λ env. 1 + cost_at t.search.index.now u (searched t.search) t.order.now env)
-      (filter (λ env. lies_in u (value t.search.probe.now.at env)) z)) (sym gone_left)
+      ∙ cost_part (λ b. was_seen t.search.seen.now) t.search.index.now u (searched t.search) t.order.now due others ahead_is l
+      ∙ ap (λ o. (1 + due_cost t o) + total (λ env. 1 + cost_at (λ b. was_seen t.search.seen.now) t.search.index.now u (searched t.search)
+      t.order.now env) (filter (λ env. lies_in u (value t.search.probe.now.at env)) others)) (sym e)
+      ∙ ap (λ z. (1 + due_cost t t.next) + total (λ env. 1 + cost_at (λ b. was_seen t.search.seen.now) t.search.index.now u
+      (searched t.search) t.order.now env) (filter (λ env. lies_in u (value t.search.probe.now.at env)) z)) (sym gone_left)
 
   pub gone_length : length (left t) ≡ 1 + length (left (passed w t))
   gone_length = ap length left_is ∙ one (length others) (length (left (passed w t))) (ap length (sym gone_left))

@@ -55,18 +55,20 @@ module _ (q : RangedQuery) (ps : HasValidProbes q) (entries : List Entry) (T : T
     wake_moment now found e = ap (option_map (λ b. greater now (after_mark b))) (e ∙ ap least_mark hits ∙ least_same)
 
     pub wake_steps : (s mid taken : ℕ)
-        → ((u : Window) → IsUpTo whole u → mid + total (cost_left u) turns ≤ s + (length q.parts + query_cost T u q))
+        → ((u : Window) → IsUpTo whole u → mid + total (cost_left u) turns ≤ s + (length q.parts + query_cost entries T u q))
         → taken ≤ mid + total (cost_left (wake_window last (flat_map (hits_left whole) turns))) turns
-        → taken ≤ s + (length q.parts + query_cost T (wake_window last (hits_ahead entries q T last)) q)
+        → taken ≤ s + (length q.parts + query_cost entries T (wake_window last (hits_ahead entries q T last)) q)
     wake_steps s mid taken starts goes =
-        subst (λ u. taken ≤ s + (length q.parts + query_cost T u q)) window_same
+        subst (λ u. taken ≤ s + (length q.parts + query_cost entries T u q)) window_same
         (onward (starts (wake_window last (query_hits entries T whole q)) up_to)
         (subst (λ z. taken ≤ mid + total (cost_left (wake_window last z)) turns) hits goes))
       where
         onward : {a b c : ℕ} → b ≤ c → a ≤ b → a ≤ c
         onward h k = omega (arith, h, k)
 
-  pub wake_plain : (s taken : ℕ) → taken ≤ s + (length q.parts + query_cost T (wake_window last (hits_ahead entries q T last)) q)
+  pub wake_plain : (s taken : ℕ) → taken ≤ s + (length q.parts + query_cost entries T (wake_window last (hits_ahead entries q T last)) q)
       → ((p : Probe) → In p (ranged_probes q) → IsPlain p)
       → taken ≤ s + marked_ahead T (wake_window last (hits_ahead entries q T last)) (ranged_probes q)
-  wake_plain s taken h plain = let k = plain_cost q ps T (wake_window last (hits_ahead entries q T last)) plain in omega (arith, h, k)
+  wake_plain s taken h plain =
+      let k = plain_cost q ps entries T (wake_window last (hits_ahead entries q T last)) plain in
+      omega (arith, h, k)

@@ -12,7 +12,7 @@ use Rattle.time_marks.specs.declared.window.Window.{Window}
 use Rattle.time_marks.specs.Probes.{Probe}
 use Rattle.time_marks.specs.Seeks.{lies_in}
 use Rattle.probe_eval.specs.Drivers.{hits_at, cost_at, mark_in}
-use Rattle.probe_eval.specs.Nested.{hits_over, work_over}
+use Rattle.probe_eval.specs.Nested.{was_seen, hits_over, work_over}
 use Rattle.probe_eval.specs.Searches.{searched, HasBody, HasSlots}
 use Rattle.probe_eval.specs.Work.{total}
 use Rattle.wake_plan.specs.declared.due.DrivingRow.{DrivingRow}
@@ -62,7 +62,7 @@ due_hits t (Some due) = hits_over t.search.seen.now t.search.index.now (searched
 -- the steps that looking for them may take
 abbrev pub due_cost : Turn → Option DrivingRow → ℕ
 due_cost t None = 0
-due_cost t (Some due) = work_over t.search.index.now (searched t.search) due.mark false t.order.now due.env
+due_cost t (Some due) = work_over (was_seen t.search.seen.now) t.search.index.now (searched t.search) due.mark false t.order.now due.env
 
 -- the hits beside the rows that are left
 abbrev pub hits_left : Window → Turn → List Hit
@@ -71,7 +71,7 @@ hits_left w t = flat_map (hits_at t.search.seen.now t.search.index.now w (search
 -- a step for each row that is left with its mark in the window, and the cost beside it
 abbrev pub cost_left : Window → Turn → ℕ
 cost_left u t =
-    total (λ env. 1 + cost_at t.search.index.now u (searched t.search) t.order.now env)
+    total (λ env. 1 + cost_at (λ b. was_seen t.search.seen.now) t.search.index.now u (searched t.search) t.order.now env)
     (filter (λ env. lies_in u (value t.search.probe.now.at env)) (left t))
 
 -- each has a mark in the window, none a lesser one than those before it

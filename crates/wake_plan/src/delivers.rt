@@ -1,14 +1,14 @@
 //! Whether a probe finds a document beside a driving row.
 
-ghost use Rattle.std.specs.Prelude.{◌≡◌, ◌+◌, ◌≤◌, length, option_to_list};
+ghost use Rattle.std.specs.Prelude.{◌≡◌, ◌+◌, ◌≤◌, length, option_to_list, if◌then◌else◌};
 ghost use Rattle.probe_eval.specs.Searches.{searched, CanSearch};
 ghost use Rattle.probe_eval.specs.Levels.{IsSure};
-ghost use Rattle.probe_eval.specs.Nested.{new_doc, hit_if, holds_here, cost_here, hits_over};
-ghost use Rattle.probe_eval.specs.Nested.{work_over};
+ghost use Rattle.probe_eval.specs.Nested.{was_seen, new_doc, hit_if, holds_here, cost_here};
+ghost use Rattle.probe_eval.specs.Nested.{hits_over, work_over};
 ghost use Rattle.wake_plan.specs.Turns.{has_hit};
 
 use access_plan::Reach;
-use probe_eval::{Next, Search, holds_here, new_doc, next_level, rows_by};
+use probe_eval::{Next, Search, holds_here, new_doc, next_level, rows_beside};
 use std::sync::ledger::Ledger;
 use tap_base::Steps;
 use tap_rows::KeptDoc;
@@ -30,8 +30,8 @@ fn delivers_pair<'a, L: Ledger>(
     ensures hits { result ≡ has_hit (option_to_list (hit_if
         (holds_here search.now.index.now (searched search.now) mark order.now env.now) mark
         (new_doc search.now.seen.now doc.now))) }
-    ensures steps { steps.new ≤ steps.old
-        + cost_here search.now.index.now (searched search.now) mark sure order.now env.now }
+    ensures steps { steps.new ≤ steps.old + (if was_seen search.now.seen.now doc.now then 0
+        else cost_here search.now.index.now (searched search.now) mark sure order.now env.now) }
     ensures more { steps.old ≤ steps.new }
 {
     match new_doc(search.seen, doc) {
@@ -57,8 +57,8 @@ pub(crate) fn delivers<'a, L: Ledger>(
         order.now env.now sure }
     ensures hits { result ≡ has_hit (hits_over search.now.seen.now search.now.index.now
         (searched search.now) mark order.now env.now) }
-    ensures steps { steps.new ≤ steps.old
-        + work_over search.now.index.now (searched search.now) mark sure order.now env.now }
+    ensures steps { steps.new ≤ steps.old + work_over (was_seen search.now.seen.now)
+        search.now.index.now (searched search.now) mark sure order.now env.now }
     ensures more { steps.old ≤ steps.new }
 {
     match env.get(Var(0)) {
@@ -66,7 +66,8 @@ pub(crate) fn delivers<'a, L: Ledger>(
         Some(RowRef::OfNote(_)) => false,
         None => {
             if let Some(level) = next_level(search, order, &mut Next::Unknown, env, mark, steps) {
-                let mut rows = rows_by(level.reach.access, mark, env, search.index);
+                let path = search.probe.path.as_slice();
+                let mut rows = rows_beside(path, level.reach, level.sole, mark, env, search.index);
                 while let Some(row) = rows.next(steps) {
                     let more = env.bind(level.reach.var, row);
                     if delivers(search, level.rest, level.sure, &more, mark, steps) {

@@ -88,7 +88,7 @@ pub fn wake<L: Ledger>(
         (meaning_without (was_seen seen.now) (ranged_probes plan.now.query)
         index.now (record { low = last; high = pos 250000000000 }))) }
     ensures steps { steps.new ≤ steps.old + (length plan.now.query.parts
-        + query_cost index.now
+        + query_cost seen.now index.now
         (wake_window last (hits_ahead seen.now plan.now.query index.now last)) plan.now.query) }
     ensures plain { ((p : Probe) → In p (ranged_probes plan.now.query) → IsPlain p)
         → steps.new ≤ steps.old

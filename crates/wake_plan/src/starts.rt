@@ -34,7 +34,7 @@ fn fixed<'a>(search: Search<'a>, order: &'a [Reach], w: Window) -> Turn<'a>
         ≡ seek_hits search.entry.seen.now search.entry.index.now w (searched search.entry)
         order.now (seek_of search.entry.probe.now.at) None }
     ensures cost { (u : Window) → IsUpTo w u → cost_left u result
-        ≤ 1 + seek_cost search.entry.index.now u (searched search.entry)
+        ≤ 1 + seek_cost search.entry.seen.now search.entry.index.now u (searched search.entry)
         order.now (seek_of search.entry.probe.now.at) None }
 {
     let env = Env::new();
@@ -69,8 +69,8 @@ fn driven<'a, L: Ledger>(
     ensures hits { hits_left w result ≡ seek_hits search.entry.seen.now search.entry.index.now w
         (searched search.entry) order.now seek (Some var) }
     ensures cost { (u : Window) → IsUpTo w u → steps.new + cost_left u result
-        ≤ steps.old + (1 + seek_cost search.entry.index.now u (searched search.entry) order.now seek
-        (Some var)) }
+        ≤ steps.old + (1 + seek_cost search.entry.seen.now search.entry.index.now u
+        (searched search.entry) order.now seek (Some var)) }
     ensures more { steps.old ≤ steps.new }
 {
     // Brings into scope that arrivals never fall.
@@ -104,8 +104,8 @@ fn start<'a, L: Ledger>(
     ensures hits { hits_left w result ≡ seek_hits search.entry.seen.now search.entry.index.now w
         (searched search.entry) order.now seek (seek_var seek) }
     ensures cost { (u : Window) → IsUpTo w u → steps.new + cost_left u result
-        ≤ steps.old + (1 + seek_cost search.entry.index.now u (searched search.entry) order.now seek
-        (seek_var seek)) }
+        ≤ steps.old + (1 + seek_cost search.entry.seen.now search.entry.index.now u
+        (searched search.entry) order.now seek (seek_var seek)) }
     ensures more { steps.old ≤ steps.new }
 {
     match seek_var(seek) {
@@ -130,7 +130,8 @@ pub(crate) fn starts<'a, L: Ledger>(
         flat_map (hits_left w) turns.items ≡ query_hits seen.now index.now w plan.now.query) }
     ensures cost { (u : Window) → IsUpTo w u
         → IfOk result (λ turns. steps.new + total (cost_left u) turns.items
-        ≤ steps.old + (length plan.now.query.parts + query_cost index.now u plan.now.query)) }
+        ≤ steps.old
+        + (length plan.now.query.parts + query_cost seen.now index.now u plan.now.query)) }
     ensures err { OnErr result (steps.new ≡ steps.old) }
     ensures more { steps.old ≤ steps.new }
 {

@@ -2,7 +2,7 @@ use Rattle.std.proofs.Common.{◌≡◌, ◌+◌, ◌*◌, ◌≤◌, pos, lengt
 use Rattle.std.specs.List.{list_any}
 use Rattle.tql_core.specs.Holds.{truth}
 use Rattle.tql_core.specs.Values.{bind}
-use Rattle.probe_eval.specs.Work.{work, total}
+use Rattle.probe_eval.specs.Work.{exists_work}
 use Rattle.probe_eval.specs.Conjuncts.{own_part}
 use Rattle.probe_eval.specs.Searches.{condition_at}
 use Rattle.probe_eval.proofs.bodies.+bodies.Given as goal
@@ -12,10 +12,9 @@ invariant-any_own-loop-row g l = record {
   same : list_any (λ row. truth l.fn.search.index.now (pos 0) (own_part l.fn.var (condition_at l.fn.search l.fn.inner.0))
       (bind l.fn.var row l.fn.env)) l.initial.rows ≡ list_any (λ row. truth l.fn.search.index.now (pos 0)
       (own_part l.fn.var (condition_at l.fn.search l.fn.inner.0)) (bind l.fn.var row l.fn.env)) l.rows;
-  steps : l.steps + total (λ row.
-      1 + work l.fn.search.index.now (own_part l.fn.var (condition_at l.fn.search l.fn.inner.0)) (bind l.fn.var row l.fn.env)) l.rows
-      ≤ l.fn.steps + total (λ row. 1 + work l.fn.search.index.now (own_part l.fn.var (condition_at l.fn.search l.fn.inner.0))
-      (bind l.fn.var row l.fn.env)) l.initial.rows;
+  steps : l.steps + exists_work l.fn.search.index.now l.fn.var (own_part l.fn.var (condition_at l.fn.search l.fn.inner.0)) l.fn.env l.rows
+      ≤ l.fn.steps
+      + exists_work l.fn.search.index.now l.fn.var (own_part l.fn.var (condition_at l.fn.search l.fn.inner.0)) l.fn.env l.initial.rows;
   more : l.fn.steps ≤ l.steps;
 }
 

@@ -1,28 +1,27 @@
-use Rattle.std.proofs.Common.{rules, ◌≡◌, refl}
-use Rattle.row_index.specs.Orders.{doc_arrival, up_to}
+use Rattle.std.proofs.Common.{rules, ◌≡◌, filter, length}
+use Rattle.std.specs.Prelude.{int_le}
 use Rattle.tql_core.specs.Row.{OfDoc}
-use Rattle.tql_core.specs.Values.{bind}
-use Rattle.probe_eval.specs.NumberBounds.{between}
-use Rattle.probe_eval.specs.Open.{may_go}
-use Rattle.probe_eval.proofs.LeftOutLaws.{all_left, numbers_up_to}
-use Rattle.probe_eval.proofs.NarrowLaws.{those_on}
+use Rattle.probe_eval.specs.StepRows.{passes_step}
+use Rattle.probe_eval.proofs.CutLaws.{none_of_none}
+use Rattle.probe_eval.proofs.NarrowLaws.{still_in_order, come_cut, mark_cut}
 use Rattle.probe_eval.proofs.narrow.docs_beside.Goals as goal
 
-pub returns-then-len-lt-LONG : goal.returns-then-len-lt-LONG
-returns-then-len-lt-LONG c =
-    all_left (λ d. may_go c.args.path.now c.args.mark (bind c.args.var (OfDoc d) c.args.env.now)) c.args.docs c.args.docs refl
+pub returns-then-none : goal.returns-then-none
+returns-then-none c =
+    let e : length c.args.docs ≡ 0 = search rules in
+    none_of_none (λ d. passes_step c.args.var c.args.mark c.args.env.now c.args.path.now (OfDoc d)) c.args.docs e
 
-pub arrived_to-requires : goal.arrived_to-requires
-arrived_to-requires c = c.requires.arrivals
+pub cut-come-requires : goal.cut-come-requires
+cut-come-requires c = c.requires.arrivals
 
-pub between-requires : goal.between-requires
-between-requires c =
-    let by : c.arrived_to.result ≡ up_to doc_arrival c.args.mark c.args.docs = search rules in
-    numbers_up_to c.args.docs c.arrived_to.result c.args.mark by c.requires
+pub cut_path-requires : goal.cut_path-requires
+cut_path-requires c =
+    let by : c.cut-come.result ≡ filter (λ d. int_le d.arrival c.args.mark) c.args.docs =
+    come_cut _ c.args.mark c.args.docs c.cut-come.result c.cut-come.ensures (search rules) in
+    still_in_order (λ d. int_le d.arrival c.args.mark) c.args.docs c.cut-come.result by c.requires
 
 pub returns : goal.returns
 returns c =
-    let by : c.arrived_to.result ≡ up_to doc_arrival c.args.mark c.args.docs = search rules in
-    let kept : c.between.result ≡ between c.bound_on-low.result c.bound_on-high.result c.arrived_to.result = search rules in
-    those_on c.args.path.now c.args.mark c.args.var c.args.env.now c.args.docs c.arrived_to.result c.between.result c.bound_on-low.result
-    c.bound_on-high.result by kept c.bound_on-low.ensures c.bound_on-high.ensures
+    let by : c.cut-come.result ≡ filter (λ d. int_le d.arrival c.args.mark) c.args.docs =
+    come_cut _ c.args.mark c.args.docs c.cut-come.result c.cut-come.ensures (search rules) in
+    mark_cut c.args.var c.args.env.now c.args.mark c.args.path.now c.args.docs c.cut-come.result c.cut_path.result by c.cut_path.ensures

@@ -1,18 +1,16 @@
-use Rattle.std.proofs.Common.{rules, ◌≡◌, ◌≤◌, ◌+◌, ◌∷◌, ◌&&◌, true, false, ◌∙◌, None, arith, to_z, of_z, w64}
+use Rattle.std.proofs.Common.{rules, ◌≡◌, ◌≤◌, ◌+◌, ◌∷◌, ◌&&◌, true, false, ◌∙◌, Some, None, ap, sym, arith, to_z, of_z, w64}
 use Rattle.std.specs.List.{list_any}
 use Rattle.tql_core.specs.Bindings.{row_of}
 use Rattle.tql_core.specs.Values.{bind}
 use Rattle.access_plan.specs.Nearest.{nearest}
-use Rattle.access_plan.specs.Views.{access_at}
+use Rattle.access_plan.specs.Views.{reach_at}
 use Rattle.probe_eval.specs.Open.{path_apart, may_go}
 use Rattle.probe_eval.specs.Nexts.{IsNearestIfKnown}
-use Rattle.probe_eval.specs.Rests.{rest_of, decides, rest_cost, until}
-use Rattle.probe_eval.specs.LeftOut.{LeavesFalse}
-use Rattle.probe_eval.specs.Work.{rows_by, total}
+use Rattle.probe_eval.specs.Rests.{rest_of, decides, rest_cost}
+use Rattle.probe_eval.specs.StepRows.{next_rows}
+use Rattle.probe_eval.specs.Work.{total, until}
 use Rattle.std.proofs.lemmas.Bool.{and_parts}
 use Rattle.probe_eval.proofs.AlikeRows.{none_left}
-use Rattle.probe_eval.proofs.LeftOutLaws.{begin_step}
-use Rattle.probe_eval.proofs.NarrowLaws.{any_left, until_left}
 use Rattle.probe_eval.proofs.NextRows.{next_alike}
 use Rattle.probe_eval.proofs.Steps.{until_step, or_none}
 use Rattle.probe_eval.proofs.RestSteps.{stopped, all_there, any_step}
@@ -29,6 +27,11 @@ returns-in-None-clause-exists g t c =
     let n : nearest c.args.path.now c.args.env.now ≡ None = search rules in
     all_there c.args.index.now c.args.path.now c.args.mark c.args.order.now c.args.env.now m n
 
+pub rows_beside-rows-requires : goal.rows_beside-rows-requires
+rows_beside-rows-requires g t c =
+    let n : nearest c.args.path.now c.args.env.now ≡ Some (reach_at c.in-Some.reach) = search rules in
+    c.sole.ensures c.args.path.now c.args.env.now (reach_at c.in-Some.reach) c.get.ensures.next n
+
 pub rest_exists-requires : goal.rest_exists-requires
 rest_exists-requires g t c κs within =
     let by = c.loop-row.invariant.next (row_of c.in-Some-next.row) in
@@ -42,17 +45,18 @@ loop-row-init g t c =
     let mark = to_z w64 (of_z w64 c.args.mark) in
     let v = c.in-Some.reach.var in
     let rest = c.in-Some-split_first.rest.now in
-    let rows = rows_by mark (access_at c.in-Some.reach.access) env T in
+    let rows = next_rows T path mark env (reach_at c.in-Some.reach) in
     let whole : rest_of T path mark c.args.order.now env ≡ list_any (λ row. rest_of T path mark rest (bind v row env)) rows =
     search rules in
     let all : rest_cost T path mark c.args.order.now env
     ≡ total (λ row. 1 + rest_cost T path mark rest (bind v row env)) (until (decides T path mark rest env v) rows) = search rules in
-    let out : LeavesFalse (λ row. may_go path mark (bind v row env)) rows c.rows_beside-rows.result = c.rows_beside-rows.ensures in
+    let out : c.rows_beside-rows.result ≡ rows = c.rows_beside-rows.ensures in
+    let walked : rest_cost T path mark c.args.order.now env ≡ total (λ row. 1 + rest_cost T path mark rest (bind v row env))
+    (until (decides T path mark rest env v) c.rows_beside-rows.result) =
+    all ∙ ap (λ z. total (λ row. 1 + rest_cost T path mark rest (bind v row env)) (until (decides T path mark rest env v) z)) (sym out) in
     record {
-      same = whole ∙ any_left path mark v env T rest rows c.rows_beside-rows.result out;
-      steps = begin_step _ _ _ _
-          (until_left path mark v env T rest rows c.rows_beside-rows.result out (λ row. 1 + rest_cost T path mark rest (bind v row env)))
-          all;
+      same = whole ∙ ap (list_any (λ row. rest_of T path mark rest (bind v row env))) (sym out);
+      steps = omega (arith, walked);
       more = omega arith;
       next = search rules;
     }
@@ -74,7 +78,8 @@ loop-row-preserved g t c =
       same = any_step (λ row. rest_of c.args.index.now c.args.path.now mark c.in-Some-split_first.rest.now
           (bind c.in-Some.reach.var row c.args.env.now)) _ _ _ (row_of c.in-Some-next.row) c.loop-row.invariant.same e d;
       steps = until_step _ (decides c.args.index.now c.args.path.now mark c.in-Some-split_first.rest.now c.args.env.now c.in-Some.reach.var)
-          _ _ _ _ _ _ (row_of c.in-Some-next.row) c.loop-row.invariant.steps e (or_none d a) s k;
+          _ _ _ (c.args.steps.now + rest_cost c.args.index.now c.args.path.now mark c.args.order.now c.args.env.now)
+          _ _ (row_of c.in-Some-next.row) c.loop-row.invariant.steps e (or_none d a) s k;
       more = omega (arith, i, s, m);
       next = λ row. next_alike c.args.path.now c.in-Some.reach.var (row_of c.in-Some-next.row) row c.args.env.now c.rest_exists.new.next n;
     }

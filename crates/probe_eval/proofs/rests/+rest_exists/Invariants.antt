@@ -3,8 +3,8 @@ use Rattle.std.specs.List.{list_any}
 use Rattle.tql_core.specs.Row.{Row}
 use Rattle.tql_core.specs.Values.{bind}
 use Rattle.probe_eval.specs.Nexts.{IsNearestIfKnown}
-use Rattle.probe_eval.specs.Work.{total}
-use Rattle.probe_eval.specs.Rests.{until, rest_of, decides, rest_cost}
+use Rattle.probe_eval.specs.Work.{total, until}
+use Rattle.probe_eval.specs.Rests.{rest_of, decides, rest_cost}
 use Rattle.probe_eval.proofs.rests.+rest_exists.Given as goal
 
 abbrev pub invariant-loop-row : goal.invariant-loop-row

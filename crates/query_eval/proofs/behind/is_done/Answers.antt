@@ -11,7 +11,7 @@ returns-then-has c = λ t d q.
 
 pub returns : goal.returns
 returns c = λ t d q.
-    let by = c.has_lower.ensures t in
+    let by = c.has_lower.ensures.same t in
     let h : with_hit (length c.args.into.now.places.items) c.args.into.now.hits.items (record { doc = c.args.num; first = c.args.mark })
     ≡ c.args.into.now.hits.items = search (rules, by) in
     done_by_hit c.args.search.now.seen.now (length c.args.into.now.places.items) c.args.into.now.hits.items c.args.mark d c.args.num q h

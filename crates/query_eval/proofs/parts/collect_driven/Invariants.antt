@@ -1,4 +1,4 @@
-use Rattle.std.proofs.Common.{◌≡◌, ◌+◌, ◌≤◌, length, []}
+use Rattle.std.proofs.Common.{◌≡◌, ◌+◌, ◌≤◌, Some, length, []}
 use Rattle.std.specs.List.{flat_map}
 use Rattle.tql_core.specs.Row.{Row}
 use Rattle.tql_core.specs.Values.{bind}
@@ -6,8 +6,8 @@ use Rattle.probe_eval.specs.Nexts.{IsNearestIfKnown}
 use Rattle.query_eval.specs.Lowest.{keeping}
 use Rattle.query_eval.specs.Placed.{CanStoreHits}
 use Rattle.query_eval.specs.Fronts.{AreDone}
-use Rattle.probe_eval.specs.Work.{total}
-use Rattle.probe_eval.specs.Drivers.{hits_at, cost_at, walked}
+use Rattle.query_eval.specs.Driven.{total_in_turn, row_cost, turn_cost}
+use Rattle.probe_eval.specs.Drivers.{hits_at, walked}
 use Rattle.probe_eval.specs.Searches.{searched}
 use Rattle.query_eval.proofs.parts.collect_driven.Given as goal
 
@@ -21,9 +21,11 @@ invariant-loop-row g l = record {
   ready : CanStoreHits l.into;
   places : length l.into.places.items ≡ length l.fn.into.places.items;
   fronts : AreDone l.fn.search l.into l.fronts;
-  steps : l.steps + total (λ row. 1 + cost_at l.fn.search.index.now l.fn.w (searched l.fn.search) l.fn.order (bind l.fn.var row [])) l.rows
-      ≤ l.fn.steps + total (λ row. 1 + cost_at l.fn.search.index.now l.fn.w (searched l.fn.search) l.fn.order (bind l.fn.var row []))
-      (walked l.fn.search.index.now l.fn.w (searched l.fn.search) l.fn.seek l.fn.var);
+  steps : l.steps + total_in_turn (keeping (length l.into.places.items)) (row_cost (keeping (length l.into.places.items))
+      l.fn.search.seen.now l.fn.search.index.now l.fn.w (searched l.fn.search) l.fn.order l.fn.var)
+      (λ row. hits_at l.fn.search.seen.now l.fn.search.index.now l.fn.w (searched l.fn.search) l.fn.order (bind l.fn.var row []))
+      l.into.hits.items l.rows ≤ l.fn.steps + turn_cost (keeping (length l.fn.into.places.items))
+      l.fn.search.seen.now l.fn.search.index.now l.fn.w (searched l.fn.search) l.fn.order l.fn.into.hits.items l.fn.seek (Some l.fn.var);
   more : l.fn.steps ≤ l.steps;
   next : (row : Row) → IsNearestIfKnown l.fn.search.probe.now.path (bind l.fn.var row []) l.below;
 }

@@ -1,11 +1,12 @@
 use Rattle.std.proofs.Common.{rules, ◌≡◌, ◌∙◌, ◌+◌, ◌≤◌, [], length, true, ap, sym, arith}
 use Rattle.std.specs.List.{flat_map}
 use Rattle.tql_core.specs.Values.{bind}
-use Rattle.probe_eval.specs.Drivers.{cost_at, walked}
+use Rattle.probe_eval.specs.Drivers.{hits_at, walked}
+use Rattle.query_eval.specs.Driven.{row_cost}
 use Rattle.probe_eval.specs.Listed.{goes_by_list, listed_hits}
 use Rattle.probe_eval.proofs.ListedRows.{listed_rows}
 use Rattle.query_eval.specs.Lowest.{keeping}
-use Rattle.query_eval.proofs.Steps.{rows_within}
+use Rattle.query_eval.proofs.TurnCosts.{rows_in_turn}
 use Rattle.query_eval.proofs.FrontLaws.{passed_on}
 use Rattle.probe_eval.specs.Searches.{searched}
 use Rattle.query_eval.proofs.parts.collect_walked.Goals as goal
@@ -26,7 +27,10 @@ returns-then-goes_by_list-clause-steps g c =
     let p = searched s in
     let rows = walked s.index.now c.args.w p c.args.seek c.args.var in
     let k : c.collect_listed.new.steps ≤ c.args.steps.now + length rows = search rules in
-    let l = rows_within (λ row. cost_at s.index.now c.args.w p c.args.order.now (bind c.args.var row [])) rows in
+    let l = rows_in_turn (keeping (length c.args.into.now.places.items))
+    (row_cost (keeping (length c.args.into.now.places.items)) s.seen.now s.index.now c.args.w p c.args.order.now c.args.var)
+    (λ row. hits_at s.seen.now s.index.now c.args.w p c.args.order.now (bind c.args.var row [])) c.args.into.now.hits.items rows
+    (λ found row. omega arith) in
     omega (arith, k, l)
 
 pub returns-then-goes_by_list-clause-fronts : goal.returns-then-goes_by_list-clause-fronts

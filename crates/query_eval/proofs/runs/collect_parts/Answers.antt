@@ -4,11 +4,13 @@ use Rattle.tql_core.specs.Trees.{tree_at}
 use Rattle.time_marks.specs.Found.{nested}
 use Rattle.time_marks.specs.Views.{probe_in}
 use Rattle.query_eval.specs.Lowest.{keeping}
-use Rattle.probe_eval.specs.Drivers.{seek_var, seek_hits, seek_cost}
-use Rattle.probe_eval.specs.Runs.{part_order, part_hits, part_cost}
+use Rattle.probe_eval.specs.Drivers.{seek_var, seek_hits}
+use Rattle.probe_eval.specs.Runs.{part_order, part_hits}
+use Rattle.query_eval.specs.Driven.{turn_cost, part_turn}
+use Rattle.query_eval.proofs.TurnCosts.{turn_step}
 use Rattle.probe_eval.proofs.Founds.{part_fits}
 use Rattle.probe_eval.proofs.Steps.{get_in}
-use Rattle.probe_eval.proofs.Steps.{part_step, rest_at, item_at}
+use Rattle.probe_eval.proofs.Steps.{rest_at, item_at}
 use Rattle.query_eval.proofs.Steps.{hits_step}
 use Rattle.query_eval.proofs.FrontLaws.{passed_empty}
 use Rattle.query_eval.proofs.runs.collect_parts.Goals as goal
@@ -46,19 +48,22 @@ loop-place-preserved g c =
     let e : drop c.loop-place.place q.parts ≡ part ∷ drop (c.loop-place.place + 1) q.parts = rest_at q.parts c.loop-place.place part s in
     let h : c.collect_part.new.into.hits.items ≡ keeping (length c.loop-place.into.places.items)
     c.loop-place.into.hits.items (seek_hits entries T w p c.order_at.result.now part.seek (seek_var part.seek)) = search rules in
-    let k : c.collect_part.new.steps ≤ c.loop-place.steps + seek_cost T w p c.order_at.result.now part.seek (seek_var part.seek) =
-    search rules in
+    let n = length c.loop-place.into.places.items in
+    let k : c.collect_part.new.steps ≤ c.loop-place.steps + turn_cost (keeping n) entries T w p
+    c.order_at.result.now c.loop-place.into.hits.items part.seek (seek_var part.seek) = search rules in
     let h' : c.collect_part.new.into.hits.items ≡ keeping (length c.loop-place.into.places.items)
     c.loop-place.into.hits.items (part_hits entries T w q.pool part) = h ∙ ap (λ z. keeping (length c.loop-place.into.places.items)
     c.loop-place.into.hits.items (seek_hits entries T w p z part.seek (seek_var part.seek))) o in
-    let k' : c.collect_part.new.steps ≤ c.loop-place.steps + part_cost T w q.pool part =
-    subst (λ z. c.collect_part.new.steps ≤ c.loop-place.steps + seek_cost T w p z part.seek (seek_var part.seek)) o k in
+    let k' : c.collect_part.new.steps ≤ c.loop-place.steps + part_turn (keeping n) entries T w q.pool c.loop-place.into.hits.items part =
+    subst (λ z. c.collect_part.new.steps
+    ≤ c.loop-place.steps + turn_cost (keeping n) entries T w p z c.loop-place.into.hits.items part.seek (seek_var part.seek)) o k in
     let i = c.loop-place.invariant.more in
     let m = c.collect_part.ensures.more in
     record {
       hits = hits_step (part_hits entries T w q.pool) _ _ _ _ _ _ _ part c.loop-place.invariant.hits e h' c.collect_part.ensures.places;
       ready = c.collect_part.ensures.ready;
       places = c.collect_part.ensures.places ∙ c.loop-place.invariant.places;
-      steps = part_step (part_cost T w q.pool) _ _ _ _ _ part c.loop-place.invariant.steps e k';
+      steps = turn_step n (length c.collect_part.new.into.places.items) (λ n. part_turn (keeping n) entries T w q.pool)
+          (part_hits entries T w q.pool) _ _ _ _ _ _ _ part c.loop-place.invariant.steps e k' h' c.collect_part.ensures.places;
       more = omega (arith, i, m);
     }

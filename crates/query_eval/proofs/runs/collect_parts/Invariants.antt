@@ -2,8 +2,8 @@ use Rattle.std.proofs.Common.{◌≡◌, ◌+◌, ◌≤◌, length, drop}
 use Rattle.std.specs.List.{flat_map}
 use Rattle.query_eval.specs.Lowest.{keeping}
 use Rattle.query_eval.specs.Placed.{CanStoreHits}
-use Rattle.probe_eval.specs.Work.{total}
-use Rattle.probe_eval.specs.Runs.{part_hits, part_cost, query_hits, query_cost}
+use Rattle.query_eval.specs.Driven.{parts_cost}
+use Rattle.probe_eval.specs.Runs.{part_hits, query_hits}
 use Rattle.query_eval.proofs.runs.collect_parts.Given as goal
 
 abbrev pub invariant-loop-place : goal.invariant-loop-place
@@ -13,7 +13,8 @@ invariant-loop-place g l = record {
       l.into.hits.items (flat_map (part_hits l.fn.seen l.fn.index l.fn.w l.fn.plan.query.pool) (drop l.place l.fn.plan.query.parts));
   ready : CanStoreHits l.into;
   places : length l.into.places.items ≡ length l.fn.into.places.items;
-  steps : l.steps + total (part_cost l.fn.index l.fn.w l.fn.plan.query.pool) (drop l.place l.fn.plan.query.parts)
-      ≤ l.fn.steps + query_cost l.fn.index l.fn.w l.fn.plan.query;
+  steps : l.steps + parts_cost (keeping (length l.into.places.items)) l.fn.seen l.fn.index l.fn.w l.fn.plan.query.pool l.into.hits.items
+      (drop l.place l.fn.plan.query.parts) ≤ l.fn.steps + parts_cost (keeping (length l.fn.into.places.items))
+      l.fn.seen l.fn.index l.fn.w l.fn.plan.query.pool l.fn.into.hits.items l.fn.plan.query.parts;
   more : l.fn.steps ≤ l.steps;
 }

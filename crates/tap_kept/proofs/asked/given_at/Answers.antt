@@ -1,5 +1,4 @@
-use Rattle.std.proofs.Common.{rules, ◌≡◌, ◌∙◌, ap, ap₂, subst, map, IfOk, ℤ, pos, ◌+ℤ◌, w64, to_z, of_z}
-use Rattle.tap_rows.specs.declared.results.Hit.{Hit}
+use Rattle.std.proofs.Common.{rules, ◌≡◌, ◌∙◌, ap, ap₂, subst, IfOk, ℤ, pos, ◌+ℤ◌, w64, to_z, of_z}
 use Rattle.time_marks.specs.declared.window.Window.{Window}
 use Rattle.tql_core.specs.Condition.{condition}
 use Rattle.time_marks.specs.Views.{ranged_probes}
@@ -19,7 +18,8 @@ returns-in_err-hits-clause-steps g c =
     let here = is ∙ ap (λ (z : ℤ). probes_from (condition c.args.cond.now) z) low in
     let plus : to_z w64 (of_z w64 (s +ℤ pos 1)) ≡ s +ℤ pos 1 = search rules in
     let high = ap (λ (z : ℤ). to_z w64 (of_z w64 (z +ℤ pos 1))) low ∙ plus in
-    given-steps (condition c.args.cond.now) s c.args.index.now _ c.in_ok-plan.plan.query _ _ here (ap₂ at low high) c.run.ensures.steps
+    given-steps (condition c.args.cond.now) s c.args.index.now _ _ c.in_ok-plan.plan.query _ _ c.new-none.ensures here (ap₂ at low high)
+    c.run.ensures.steps
 
 pub returns-clause-docs : goal.returns-clause-docs
 returns-clause-docs g c =
@@ -45,4 +45,5 @@ returns-clause-steps g c =
     let here = is ∙ ap (λ (z : ℤ). probes_from (condition c.args.cond.now) z) low in
     let plus : to_z w64 (of_z w64 (s +ℤ pos 1)) ≡ s +ℤ pos 1 = search rules in
     let high = ap (λ (z : ℤ). to_z w64 (of_z w64 (z +ℤ pos 1))) low ∙ plus in
-    given-steps (condition c.args.cond.now) s c.args.index.now _ c.in_ok-plan.plan.query _ _ here (ap₂ at low high) c.run.ensures.steps
+    given-steps (condition c.args.cond.now) s c.args.index.now _ _ c.in_ok-plan.plan.query _ _ c.new-none.ensures here (ap₂ at low high)
+    c.run.ensures.steps

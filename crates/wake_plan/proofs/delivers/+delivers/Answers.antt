@@ -1,11 +1,13 @@
-use Rattle.std.proofs.Common.{rules, ◌≡◌, ◌≤◌, ◌+◌, ◌∷◌, ◌∙◌, None, Some, false, arith, sym, ap, to_z, of_z, w64}
+use Rattle.std.proofs.Common.{rules, ◌≡◌, ◌≤◌, ◌+◌, ◌∷◌, ◌∙◌, Some, false, arith, sym, ap, subst, to_z, of_z, w64, if◌then◌else◌}
 use Rattle.std.specs.Prelude.{option_to_list}
 use Rattle.std.specs.List.{flat_map}
 use Rattle.tql_core.specs.Bindings.{row_of}
 use Rattle.tql_core.specs.Row.{OfDoc, OfNote}
 use Rattle.tql_core.specs.Values.{bind, lookup}
+use Rattle.access_plan.specs.Views.{option_access, reach_at}
+use Rattle.probe_eval.specs.Nexts.{IsSole}
 use Rattle.probe_eval.specs.Levels.{IsLevel, level_cost, rows_at}
-use Rattle.probe_eval.specs.Nested.{new_doc, hit_if, holds_here, hits_over, work_over, cost_here}
+use Rattle.probe_eval.specs.Nested.{was_seen, new_doc, hit_if, holds_here, hits_over, work_over, cost_here}
 use Rattle.probe_eval.proofs.Steps.{cost_step}
 use Rattle.probe_eval.proofs.HitSteps.{doc_hits, note_hits, doc_cost}
 use Rattle.probe_eval.proofs.LevelLaws.{level_steps}
@@ -14,19 +16,29 @@ use Rattle.wake_plan.proofs.DeliverLaws.{next_row}
 use Rattle.probe_eval.specs.Searches.{searched}
 use Rattle.wake_plan.proofs.delivers.+delivers.Goals as goal
 
+pub rows_beside-rows-requires : goal.rows_beside-rows-requires
+rows_beside-rows-requires g t c =
+    let mark = to_z w64 (of_z w64 c.args.mark) in
+    let v : IsLevel c.args.search.now.seen.now c.args.search.now.index.now (searched c.args.search.now) mark
+    c.args.order.now c.args.env.now c.in-Some.level = search rules in
+    let p : c.as_slice-path.result.now ≡ c.args.search.now.probe.now.path = search rules in
+    subst (λ z. IsSole z c.args.env.now (reach_at c.in-Some.level.reach) (option_access c.in-Some.level.sole)) (sym p) v.sole
+
 pub loop-row-init : goal.loop-row-init
 loop-row-init g t c =
     let mark = to_z w64 (of_z w64 c.args.mark) in
     let p = searched c.args.search.now in
     let v : IsLevel c.args.search.now.seen.now c.args.search.now.index.now p mark c.args.order.now c.args.env.now c.in-Some.level =
     search rules in
-    let q : c.rows_by-rows.result ≡ rows_at c.args.search.now.index.now mark c.args.env.now c.in-Some.level = search rules in
-    let s : c.next_level.new.steps + level_cost c.args.search.now.index.now p mark c.args.env.now (Some c.in-Some.level)
-    ≤ c.args.steps.now + work_over c.args.search.now.index.now p mark c.args.sure c.args.order.now c.args.env.now = search rules in
+    let q : c.rows_beside-rows.result ≡ rows_at c.args.search.now.index.now p.path mark c.args.env.now c.in-Some.level = search rules in
+    let s : c.next_level.new.steps + level_cost (was_seen c.args.search.now.seen.now) c.args.search.now.index.now p mark
+    c.args.env.now (Some c.in-Some.level) ≤ c.args.steps.now + work_over (was_seen c.args.search.now.seen.now)
+    c.args.search.now.index.now p mark c.args.sure c.args.order.now c.args.env.now = search rules in
     record {
       same = ap has_hit (v.hits ∙ ap (flat_map (λ row. hits_over c.args.search.now.seen.now c.args.search.now.index.now p mark
           c.in-Some.level.rest.now (bind c.in-Some.level.reach.var row c.args.env.now))) (sym q));
-      steps = level_steps c.args.search.now.index.now p mark c.args.env.now c.in-Some.level c.rows_by-rows.result _ _ q s;
+      steps = level_steps (was_seen c.args.search.now.seen.now) c.args.search.now.index.now p mark
+          c.args.env.now c.in-Some.level c.rows_beside-rows.result _ _ q s;
       more = c.next_level.ensures.more;
     }
 
@@ -40,8 +52,8 @@ loop-row-preserved g t c =
     let h : c.delivers.result
     ≡ has_hit (hits_over c.args.search.now.seen.now c.args.search.now.index.now p mark c.in-Some.level.rest.now x) = search rules in
     let n : c.delivers.result ≡ false = search rules in
-    let k : c.delivers.new.steps
-    ≤ c.next.new.steps + work_over c.args.search.now.index.now p mark c.in-Some.level.sure c.in-Some.level.rest.now x = search rules in
+    let k : c.delivers.new.steps ≤ c.next.new.steps + work_over (was_seen c.args.search.now.seen.now) c.args.search.now.index.now p mark
+    c.in-Some.level.sure c.in-Some.level.rest.now x = search rules in
     let i = c.loop-row.invariant.more in
     let m = c.delivers.ensures.more in
     record {
@@ -63,13 +75,14 @@ returns-in-Some-OfDoc-clause-hits g t c =
 pub returns-in-Some-OfDoc-clause-steps : goal.returns-in-Some-OfDoc-clause-steps
 returns-in-Some-OfDoc-clause-steps g t c =
     let p = searched c.args.search.now in
-    let e : lookup 0 c.args.env.now ≡ Some (OfDoc c.in-Some-OfDoc.doc.now) = search rules in
-    let k : work_over c.args.search.now.index.now p c.args.mark c.args.sure c.args.order.now c.args.env.now
-    ≡ cost_here c.args.search.now.index.now p c.args.mark c.args.sure c.args.order.now c.args.env.now =
-    doc_cost c.args.search.now.index.now p c.args.mark c.args.sure c.args.order.now c.args.env.now c.in-Some-OfDoc.doc.now e in
-    let s : c.delivers_pair.new.steps ≤ c.args.steps.now
-    + cost_here c.args.search.now.index.now p c.args.mark c.args.sure c.args.order.now c.args.env.now = search rules in
-    omega (arith, k, s)
+    let T = c.args.search.now.index.now in
+    let d = c.in-Some-OfDoc.doc.now in
+    let seen = was_seen c.args.search.now.seen.now in
+    let e : lookup 0 c.args.env.now ≡ Some (OfDoc d) = search rules in
+    let s : c.delivers_pair.new.steps
+    ≤ c.args.steps.now + (if seen d then 0 else cost_here T p c.args.mark c.args.sure c.args.order.now c.args.env.now) = search rules in
+    subst (λ z. c.delivers_pair.new.steps ≤ c.args.steps.now + z)
+    (sym (doc_cost seen T p c.args.mark c.args.sure c.args.order.now c.args.env.now d e)) s
 
 pub returns-in-Some-OfNote-clause-hits : goal.returns-in-Some-OfNote-clause-hits
 returns-in-Some-OfNote-clause-hits g t c =

@@ -2,7 +2,7 @@ use Rattle.std.proofs.Common.{◌≡◌, ◌+◌, ◌≤◌, length}
 use Rattle.std.specs.List.{flat_map}
 use Rattle.tql_core.specs.Values.{bind}
 use Rattle.probe_eval.specs.Work.{total}
-use Rattle.probe_eval.specs.Nested.{hits_over, work_over}
+use Rattle.probe_eval.specs.Nested.{was_seen, hits_over, work_over}
 use Rattle.wake_plan.specs.Turns.{has_hit}
 use Rattle.probe_eval.specs.Searches.{searched}
 use Rattle.wake_plan.proofs.delivers.+delivers.Given as goal
@@ -12,9 +12,9 @@ invariant-loop-row g l = record {
   same : has_hit (hits_over l.fn.search.seen.now l.fn.search.index.now (searched l.fn.search) l.fn.mark l.fn.order l.fn.env)
       ≡ has_hit (flat_map (λ row. hits_over l.fn.search.seen.now l.fn.search.index.now (searched l.fn.search)
       l.fn.mark l.level.rest.now (bind l.level.reach.var row l.fn.env)) l.rows);
-  steps : l.steps + total (λ row. 1 + work_over l.fn.search.index.now (searched l.fn.search)
-      l.fn.mark l.level.sure l.level.rest.now (bind l.level.reach.var row l.fn.env)) l.rows
-      ≤ l.fn.steps + work_over l.fn.search.index.now (searched l.fn.search) l.fn.mark l.fn.sure l.fn.order l.fn.env;
+  steps : l.steps + total (λ row. 1 + work_over (was_seen l.fn.search.seen.now) l.fn.search.index.now (searched l.fn.search)
+      l.fn.mark l.level.sure l.level.rest.now (bind l.level.reach.var row l.fn.env)) l.rows ≤ l.fn.steps
+      + work_over (was_seen l.fn.search.seen.now) l.fn.search.index.now (searched l.fn.search) l.fn.mark l.fn.sure l.fn.order l.fn.env;
   more : l.fn.steps ≤ l.steps;
 }
 

@@ -23,8 +23,8 @@ returns-in-None-clause-steps g c =
     let w : Window = record { low = c.args.last; high = pos 250000000000 } in
     let h : flat_map (hits_left w) c.in_ok-turns.turns.items ≡ query_hits c.args.seen.now c.args.index.now w c.args.plan.now.query =
     search rules in
-    let s : (u : Window) → IsUpTo w u → c.starts.new.steps + total (cost_left u) c.in_ok-turns.turns.items
-    ≤ c.args.steps.now + (length c.args.plan.now.query.parts + query_cost c.args.index.now u c.args.plan.now.query) = search rules in
+    let s : (u : Window) → IsUpTo w u → c.starts.new.steps + total (cost_left u) c.in_ok-turns.turns.items ≤ c.args.steps.now
+    + (length c.args.plan.now.query.parts + query_cost c.args.seen.now c.args.index.now u c.args.plan.now.query) = search rules in
     let t : c.first_delivery.new.steps ≤ c.starts.new.steps
     + total (cost_left (wake_window c.args.last (flat_map (hits_left w) c.in_ok-turns.turns.items))) c.in_ok-turns.turns.items =
     search rules in
@@ -35,8 +35,8 @@ returns-in-None-clause-plain g c plain =
     let w : Window = record { low = c.args.last; high = pos 250000000000 } in
     let h : flat_map (hits_left w) c.in_ok-turns.turns.items ≡ query_hits c.args.seen.now c.args.index.now w c.args.plan.now.query =
     search rules in
-    let s : (u : Window) → IsUpTo w u → c.starts.new.steps + total (cost_left u) c.in_ok-turns.turns.items
-    ≤ c.args.steps.now + (length c.args.plan.now.query.parts + query_cost c.args.index.now u c.args.plan.now.query) = search rules in
+    let s : (u : Window) → IsUpTo w u → c.starts.new.steps + total (cost_left u) c.in_ok-turns.turns.items ≤ c.args.steps.now
+    + (length c.args.plan.now.query.parts + query_cost c.args.seen.now c.args.index.now u c.args.plan.now.query) = search rules in
     let t : c.first_delivery.new.steps ≤ c.starts.new.steps
     + total (cost_left (wake_window c.args.last (flat_map (hits_left w) c.in_ok-turns.turns.items))) c.in_ok-turns.turns.items =
     search rules in
@@ -58,8 +58,8 @@ returns-clause-steps g c =
     let w : Window = record { low = c.args.last; high = pos 250000000000 } in
     let h : flat_map (hits_left w) c.in_ok-turns.turns.items ≡ query_hits c.args.seen.now c.args.index.now w c.args.plan.now.query =
     search rules in
-    let s : (u : Window) → IsUpTo w u → c.starts.new.steps + total (cost_left u) c.in_ok-turns.turns.items
-    ≤ c.args.steps.now + (length c.args.plan.now.query.parts + query_cost c.args.index.now u c.args.plan.now.query) = search rules in
+    let s : (u : Window) → IsUpTo w u → c.starts.new.steps + total (cost_left u) c.in_ok-turns.turns.items ≤ c.args.steps.now
+    + (length c.args.plan.now.query.parts + query_cost c.args.seen.now c.args.index.now u c.args.plan.now.query) = search rules in
     let t : c.first_delivery.new.steps ≤ c.starts.new.steps
     + total (cost_left (wake_window c.args.last (flat_map (hits_left w) c.in_ok-turns.turns.items))) c.in_ok-turns.turns.items =
     search rules in
@@ -70,8 +70,8 @@ returns-clause-plain g c plain =
     let w : Window = record { low = c.args.last; high = pos 250000000000 } in
     let h : flat_map (hits_left w) c.in_ok-turns.turns.items ≡ query_hits c.args.seen.now c.args.index.now w c.args.plan.now.query =
     search rules in
-    let s : (u : Window) → IsUpTo w u → c.starts.new.steps + total (cost_left u) c.in_ok-turns.turns.items
-    ≤ c.args.steps.now + (length c.args.plan.now.query.parts + query_cost c.args.index.now u c.args.plan.now.query) = search rules in
+    let s : (u : Window) → IsUpTo w u → c.starts.new.steps + total (cost_left u) c.in_ok-turns.turns.items ≤ c.args.steps.now
+    + (length c.args.plan.now.query.parts + query_cost c.args.seen.now c.args.index.now u c.args.plan.now.query) = search rules in
     let t : c.first_delivery.new.steps ≤ c.starts.new.steps
     + total (cost_left (wake_window c.args.last (flat_map (hits_left w) c.in_ok-turns.turns.items))) c.in_ok-turns.turns.items =
     search rules in

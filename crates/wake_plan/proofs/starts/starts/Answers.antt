@@ -46,8 +46,8 @@ loop-place-preserved g c =
     let h' : hits_left w c.start.result ≡ part_hits entries T w q.pool part = h
     ∙ ap (λ z. seek_hits entries T w p z part.seek (seek_var part.seek)) o in
     let k : (u : Window) → IsUpTo w u → c.start.new.steps + cost_left u c.start.result
-    ≤ c.loop-place.steps + (1 + part_cost T u q.pool part) = λ u v. subst (λ z. c.start.new.steps + cost_left u c.start.result
-    ≤ c.loop-place.steps + (1 + seek_cost T u p z part.seek (seek_var part.seek))) o (c.start.ensures.cost u v) in
+    ≤ c.loop-place.steps + (1 + part_cost entries T u q.pool part) = λ u v. subst (λ z. c.start.new.steps + cost_left u c.start.result
+    ≤ c.loop-place.steps + (1 + seek_cost entries T u p z part.seek (seek_var part.seek))) o (c.start.ensures.cost u v) in
     let r : vec_capacity c.loop-place.turns ≤ vec_capacity c.push.new.self = search rules in
     let i = c.loop-place.invariant.more in
     let m = c.start.ensures.more in
@@ -55,7 +55,7 @@ loop-place-preserved g c =
       turns = each_pushed (IsTurn w) c.loop-place.turns.items _ c.start.result c.loop-place.invariant.turns c.start.ensures.turn n;
       hits = pushed_hits (hits_left w) (part_hits entries T w q.pool) c.loop-place.turns.items _ c.start.result _ _ part _
           c.loop-place.invariant.hits e h' n;
-      cost = λ u v. pushed_cost (cost_left u) (part_cost T u q.pool) c.loop-place.turns.items _ c.start.result _ _ part _ _ _
+      cost = λ u v. pushed_cost (cost_left u) (part_cost entries T u q.pool) c.loop-place.turns.items _ c.start.result _ _ part _ _ _
           (c.loop-place.invariant.cost u v) e (k u v) n;
       room = pushed_room c.loop-place.turns.items _ c.start.result _ _ part _ _ c.loop-place.invariant.room e n r;
       more = omega (arith, i, m);

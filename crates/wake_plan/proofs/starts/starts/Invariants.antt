@@ -15,8 +15,8 @@ invariant-loop-place g l = record {
   hits : flat_map (hits_left l.fn.w) l.turns.items ++ flat_map (part_hits l.fn.seen l.fn.index l.fn.w l.fn.plan.query.pool)
       (drop l.place l.fn.plan.query.parts) ≡ query_hits l.fn.seen l.fn.index l.fn.w l.fn.plan.query;
   cost : (u : Window) → IsUpTo l.fn.w u → l.steps + total (cost_left u) l.turns.items + (length (drop l.place l.fn.plan.query.parts)
-      + total (part_cost l.fn.index u l.fn.plan.query.pool) (drop l.place l.fn.plan.query.parts))
-      ≤ l.fn.steps + (length l.fn.plan.query.parts + query_cost l.fn.index u l.fn.plan.query);
+      + total (part_cost l.fn.seen l.fn.index u l.fn.plan.query.pool) (drop l.place l.fn.plan.query.parts))
+      ≤ l.fn.steps + (length l.fn.plan.query.parts + query_cost l.fn.seen l.fn.index u l.fn.plan.query);
   room : length l.turns.items + length (drop l.place l.fn.plan.query.parts) ≤ vec_capacity l.turns;
   more : l.fn.steps ≤ l.steps;
 }

@@ -109,8 +109,8 @@ returns-in_err-refuse_more-2-clause-most g c =
     let kept = c.in_ok-kept.kept.now in
     let is-m : e.session.moment ≡ Some c.in-Some.moment = search rules in
     let same : to_z w64 (of_z w64 c.in-Some.moment) ≡ c.in-Some.moment = search rules in
-    most-since e c.args.name.now kept c.in-Some.moment c.find.new.steps c.args.steps.now is-m c.in_ok-kept.ensures.ok
-    (subst (λ m. c.find.new.steps ≤ c.args.steps.now + query_work e.index (window_since kept m) kept.row) same c.find.ensures.steps)
+    most-since e c.args.name.now kept c.in-Some.moment c.find.new.steps c.args.steps.now is-m c.in_ok-kept.ensures.ok (subst (λ m.
+    c.find.new.steps ≤ c.args.steps.now + query_work kept.entries e.index (window_since kept m) kept.row) same c.find.ensures.steps)
 
 pub returns-in_err-copy_hits-clause-most : goal.returns-in_err-copy_hits-clause-most
 returns-in_err-copy_hits-clause-most g c =
@@ -118,8 +118,8 @@ returns-in_err-copy_hits-clause-most g c =
     let kept = c.in_ok-kept.kept.now in
     let is-m : e.session.moment ≡ Some c.in-Some.moment = search rules in
     let same : to_z w64 (of_z w64 c.in-Some.moment) ≡ c.in-Some.moment = search rules in
-    most-since e c.args.name.now kept c.in-Some.moment c.find.new.steps c.args.steps.now is-m c.in_ok-kept.ensures.ok
-    (subst (λ m. c.find.new.steps ≤ c.args.steps.now + query_work e.index (window_since kept m) kept.row) same c.find.ensures.steps)
+    most-since e c.args.name.now kept c.in-Some.moment c.find.new.steps c.args.steps.now is-m c.in_ok-kept.ensures.ok (subst (λ m.
+    c.find.new.steps ≤ c.args.steps.now + query_work kept.entries e.index (window_since kept m) kept.row) same c.find.ensures.steps)
 
 pub returns-clause-most : goal.returns-clause-most
 returns-clause-most g c =
@@ -127,8 +127,8 @@ returns-clause-most g c =
     let kept = c.in_ok-kept.kept.now in
     let is-m : e.session.moment ≡ Some c.in-Some.moment = search rules in
     let same : to_z w64 (of_z w64 c.in-Some.moment) ≡ c.in-Some.moment = search rules in
-    most-since e c.args.name.now kept c.in-Some.moment c.find.new.steps c.args.steps.now is-m c.in_ok-kept.ensures.ok
-    (subst (λ m. c.find.new.steps ≤ c.args.steps.now + query_work e.index (window_since kept m) kept.row) same c.find.ensures.steps)
+    most-since e c.args.name.now kept c.in-Some.moment c.find.new.steps c.args.steps.now is-m c.in_ok-kept.ensures.ok (subst (λ m.
+    c.find.new.steps ≤ c.args.steps.now + query_work kept.entries e.index (window_since kept m) kept.row) same c.find.ensures.steps)
 
 pub returns-in_err-copy_hits-clause-refusal : goal.returns-in_err-copy_hits-clause-refusal
 returns-in_err-copy_hits-clause-refusal g c =

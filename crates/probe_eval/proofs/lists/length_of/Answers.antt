@@ -1,0 +1,14 @@
+use Rattle.std.proofs.Common.{rules, ◌≡◌, ◌∙◌, length}
+use Rattle.access_plan.specs.Views.{access_at}
+use Rattle.probe_eval.specs.Shortest.{IsListOf}
+use Rattle.probe_eval.proofs.ShortestLaws.{list_counted}
+use Rattle.probe_eval.proofs.lists.length_of.Goals as goal
+
+pub other_length-requires : goal.other_length-requires
+other_length-requires c = c.text_list.ensures.none c.in-None.is
+
+pub returns-in-Some : goal.returns-in-Some
+returns-in-Some c =
+    let l : IsListOf c.args.index.now (access_at c.args.access) c.args.env.now c.in-Some.docs = search rules in
+    let n : c.len.result ≡ length c.in-Some.docs = search rules in
+    n ∙ list_counted c.args.index.now (access_at c.args.access) c.args.env.now c.in-Some.docs l
