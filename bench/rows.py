@@ -128,7 +128,7 @@ def of_first_subject(size, k):
 # ---- queries
 
 REPLY = ("doc r", "r.inreplyto = m.msgid")
-CITED = ("ref f JOIN doc r ON r.num = f.num", "f.msgid = m.msgid")
+CITED = ("ref f JOIN doc r ON r.num = f.doc", "f.msgid = m.msgid")
 THREAD = "(r.inreplyto = m.msgid OR r.references HAS m.msgid)"
 SCORED = "a.author = 'ann' AND a.kind = 'score'"
 LATER = "EXISTS (r: DOC WHERE r.subject = m.subject AND r.ts > m.ts)"
@@ -207,14 +207,14 @@ ROWS = [
     Row(
         "written to",
         "EXISTS (r: DOC WHERE r.to HAS m.from)",
-        exists(("addressee t JOIN doc r ON r.num = t.num", "t.address = m.sender")),
+        exists(("addressee t JOIN doc r ON r.num = t.doc", "t.address = m.sender")),
         of_people,
         asked=True,
     ),
     Row(
         "answered by an addressee",
         "EXISTS (r: DOC WHERE r.inreplyto = m.msgid AND m.to HAS r.from)",
-        exists(("doc r JOIN addressee t ON t.address = r.sender", "r.inreplyto = m.msgid AND t.num = m.num")),
+        exists(("doc r JOIN addressee t ON t.address = r.sender", "r.inreplyto = m.msgid AND t.doc = m.num")),
         of_people,
         new_answer_of_addressee,
         asked=True,
@@ -222,18 +222,18 @@ ROWS = [
     Row(
         "to the list",
         "m.to HAS 'list@example.org'",
-        plain("num IN (SELECT num FROM addressee WHERE address = 'list@example.org')"),
+        plain("num IN (SELECT doc FROM addressee WHERE address = 'list@example.org')"),
         of_people,
         asked=True,
     ),
     Row("later of its subject", LATER, SQL_LATER, asked=True),
-    Row("later of its subject, all of one second", LATER, SQL_LATER, seconds=0, asked=True),
     Row(
         "last of its sender",
         "NOT EXISTS (r: DOC WHERE r.from = m.from AND r.id > m.id)",
         none(("doc r", "r.sender = m.sender AND r.num > m.num")),
         asked=True,
     ),
+    Row("later of its subject, all of one second", LATER, SQL_LATER, seconds=0, asked=True),
     Row(
         "size twins",
         "EXISTS (r: DOC WHERE r.size = m.size AND r.id <> m.id)",

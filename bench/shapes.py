@@ -12,8 +12,9 @@ bench/rows.py has the rows. SQLite gets the mails and notes of the same script (
 SQL. Its time is the processor's, and what it finds has to be the same, of the first run and of all rounds together. PEER is the
 program of bench/peer.c: it gets the same script, with the query in its own form, and its replies to the runs have to be the same.
 
-SIZES are the numbers of mails, CROSS those of the two cross products, ROUNDS the rounds, TIMES the processes of a line, LIMIT the
-most seconds of one line, SHAPES texts with | between them, of which the name of a shape has one.
+SIZES are the numbers of mails (at least three times ROUNDS), CROSS those of the two cross products, ROUNDS the rounds, TIMES the
+processes of a line, LIMIT the most seconds of a part of a line, SHAPES texts with | between them: a shape is taken if its name has
+one of them. What takes a twentieth of LIMIT has no rounds, and isn't tried with more mails.
 """
 
 import functools
@@ -99,7 +100,7 @@ def stored_script(stored, seconds, size):
     return "".join(text)
 
 
-@functools.lru_cache(maxsize=1)
+@functools.lru_cache(maxsize=2)
 def stored_base(stored, seconds, size):
     """The same in SQLite."""
     base = sql.new_base()
@@ -119,12 +120,17 @@ def event_of(row, size, k):
 
 
 def rounds_of(row, size, part, runs):
-    """The rounds of a part, half a turn: in each turn those without runs come first."""
+    """The commands of a half of a turn, number `part` of all halves."""
     text = []
     for k in range(part * (ROUNDS // TURNS) + 1, (part + 1) * (ROUNDS // TURNS) + 1):
         then = now_of(size) + k * 3600
         text.append(f"at {then}\n{event_of(row, size, k)}at {then + 1}\n" + "run q\n" * runs)
     return "".join(text)
+
+
+def is_slow(seconds):
+    """What takes so long has no rounds, and isn't tried with more mails."""
+    return seconds > LIMIT / 20
 
 
 class Measured(NamedTuple):
@@ -160,7 +166,7 @@ def measure_runs(session, row, query, size, has_rounds):
     if b"ok 0 query q" not in said:
         raise SystemExit(f"shapes: {query}: {said.decode()}")
     first, replies = session.part("run q\n")
-    if not has_rounds:
+    if not has_rounds or is_slow(first):
         return Measured(first, None, "", replies)
     each, told, said = measure_rounds(session, row, size)
     return Measured(first, each, told, replies + said)
@@ -205,9 +211,11 @@ def has_rows_of_rounds(row, size, found):
 
 def beside_sqlite(row, size, asked, found):
     base = stored_base(row.stored, row.seconds, size)
-    said = [sql.find(base, row.sql.ask if asked else row.sql.run, now_of(size), LIMIT) for _ in range(TIMES)]
-    if None in said:
-        return f"SQLite more than {LIMIT:.0f} s"
+    said = []
+    for _ in range(TIMES):
+        said.append(sql.find(base, row.sql.ask if asked else row.sql.run, now_of(size), LIMIT))
+        if not said[-1]:
+            return f"SQLite more than {LIMIT:.0f} s"
     seconds = statistics.median(it[0] for it in said)
     text = f"SQLite {figure(seconds, 'ms', 1e3)}; times {found.first / seconds:.1f}"
     if found.replies.partition(b"\n")[2].partition(b"no 1\n")[0] != said[0][1]:
@@ -246,10 +254,9 @@ def main(words):
         lines = [(f"ask: {row.name}" if asked else row.name, row, asked) for row in rows for asked in (False, True)[: 1 + row.asked]]
         for size in sizes:
             for name, row, asked in lines:
-                # What took long is not tried with ten times as many mails.
                 if is_chosen(name) and name not in slow:
                     seconds = line(program, peer, name, row, size, asked, has_rounds)
-                    if seconds is None or (rows is ROWS and seconds > LIMIT / 20):
+                    if seconds is None or (rows is ROWS and is_slow(seconds)):
                         slow.add(name)
 
 

@@ -56,10 +56,10 @@ def has_word(doc, word):
 
 
 TABLES = {
-    "doc": "ts size sender msgid subject inreplyto",
-    "ref": "num msgid",
-    "addressee": "num address",
-    "note": "ts doc author kind value",
+    "doc": "ts INTEGER, size INTEGER, sender TEXT, msgid TEXT, subject TEXT, inreplyto TEXT",
+    "ref": "doc INTEGER, msgid TEXT",
+    "addressee": "doc INTEGER, address TEXT",
+    "note": "ts INTEGER, doc INTEGER, author TEXT, kind TEXT, value INTEGER",
 }
 
 
@@ -67,10 +67,10 @@ def new_base():
     """SQLite with the tables of rows and an index on each field."""
     base = sqlite3.connect(":memory:")
     for table, columns in TABLES.items():
-        key = "num INTEGER PRIMARY KEY, " if "num" not in columns else ""
-        base.execute(f"CREATE TABLE {table} ({key}{', '.join(columns.split())})")
-        for it in columns.split():
-            base.execute(f"CREATE INDEX {table}_{it} ON {table} ({it})")
+        base.execute(f"CREATE TABLE {table} (num INTEGER PRIMARY KEY, {columns})")
+        for it in columns.split(", "):
+            name = it.split()[0]
+            base.execute(f"CREATE INDEX {table}_{name} ON {table} ({name})")
     base.execute("CREATE VIRTUAL TABLE word USING fts5 (body, content='')")
     return base
 
@@ -83,8 +83,8 @@ def add_mail(base, now, lines):
     row = (now, sum(len(it) + 1 for it in lines), fields.get("From"), msgid, fields.get("Subject"), parent)
     num = base.execute("INSERT INTO doc VALUES (NULL, ?, ?, ?, ?, ?, ?)", row).lastrowid
     base.execute("INSERT INTO word (rowid, body) VALUES (?, ?)", (num, f"{fields.get('Subject', '')} {body}"))
-    base.executemany("INSERT INTO ref VALUES (?, ?)", ((num, it.strip("<>")) for it in fields.get("References", "").split()))
-    base.executemany("INSERT INTO addressee VALUES (?, ?)", ((num, it) for it in fields.get("To", "").split(", ") if it))
+    base.executemany("INSERT INTO ref VALUES (NULL, ?, ?)", ((num, it.strip("<>")) for it in fields.get("References", "").split()))
+    base.executemany("INSERT INTO addressee VALUES (NULL, ?, ?)", ((num, it) for it in fields.get("To", "").split(", ") if it))
 
 
 def add_rows(base, script):
@@ -104,11 +104,13 @@ def add_rows(base, script):
 
 
 def find(base, select, now, limit):
-    """Processor seconds of a SELECT, and the lines that a reply has for what it finds; None after so many seconds."""
+    """Processor seconds of a SELECT, and the lines that a reply has for what it finds; None if it takes more than `limit` seconds."""
     start = time.process_time()
     base.set_progress_handler(lambda: time.process_time() - start > limit, 1_000_000)
     try:
         rows = base.execute(select, {"now": now}).fetchall()
-    except sqlite3.OperationalError:
+    except sqlite3.OperationalError as error:
+        if str(error) != "interrupted":
+            raise
         return None
     return time.process_time() - start, "".join("doc " + " first ".join(map(str, row)) + "\n" for row in rows).encode()
