@@ -182,7 +182,7 @@ ROWS = [
     ("later of its subject, of which there are 20,000 of one second", 5000, mails_of_one_second, lambda n: asked("EXISTS (r: DOC WHERE r.subject = m.subject AND r.ts > m.ts)")),
     ("a word that none of 20,000 of its subject has", 5000, mails_of_one_subject, lambda n: asked("NOT EXISTS (r: DOC WHERE r.subject = m.subject AND r.words HAS 'withdrawn')")),
     ("one reference 100,000 times, to 1,000 mails", 25000, repeated_reference, lambda n: asked("EXISTS (r: DOC WHERE m.references HAS r.msgid AND r.from = 'x@x')")),
-    ("an OR in an OR over 20,000", 5000, mails, lambda n: asked(or_in_or())),
+    ("an OR in an OR in an EXISTS, over 20,000 mails", 5000, mails, lambda n: asked(or_in_or())),
     ("64 rules over a box of 10,000", 16, lambda n: mails(10000) + BOX + rules(n), lambda n: "list all\n"),
     ("a listing of 100,000 entries", 25000, lambda n: mails(n) + BOX, lambda n: "list all\n"),
     ("a box of 100,000 entries", 25000, lambda n: mails(n) + BOX, lambda n: "box all\n"),
