@@ -5,14 +5,14 @@
 
 Each line is one shape: the bytes of the large input, the processor time of both, and the time of the large one by that of the small
 one. Four, and a little for a logarithm, is as it should be. COLLIDE is the program of bench/collide.c. LIMIT is the most seconds of
-one input, SHAPES a text that the names of the shapes have.
+one input, SHAPES texts with | between them, of which the name of a shape has one.
 """
 
 import os
 import subprocess
 import sys
 
-from shapes import LIMIT, SHAPES, Session, TooLong
+from shapes import LIMIT, Session, TooLong, is_chosen
 
 MIB = 1_048_576
 
@@ -82,14 +82,28 @@ def mails(n):
     return "".join(lines)
 
 
-def mails_of_one_subject(n):
-    """So many mails of one subject, a second apart."""
-    return "at 1000\nas ann\n" + "".join(f"at {1000 + i}\nmail\nSubject: one\n\nyes\n.\n" for i in range(1, n + 1))
+def mails_of_one_subject(n, seconds=1):
+    """So many mails of one subject, so many seconds apart."""
+    return "at 1000\nas ann\n" + "".join(f"at {1000 + seconds * i}\nmail\nSubject: one\n\nyes\n.\n" for i in range(1, n + 1))
+
+
+def mails_of_one_second(n):
+    return mails_of_one_subject(n, 0)
+
+
+def mails_of_one_id(n):
+    """A hundredth as many mails of one id."""
+    return "mail\nMessage-ID: <a@ab>\n\nyes\n.\n" * (n // 100)
 
 
 def asked(text):
     """A query is defined, run and explained."""
     return f"at 300000000\nquery q {text}\nrun q\nexplain q\nwake q\n"
+
+
+def repeated_reference(n):
+    """A mail that has one reference so many times, and a query that looks at the mails it names."""
+    return block("mail", ["References:" + " <a@ab>" * n, "", "text"]) + asked("EXISTS (r: DOC WHERE m.references HAS r.msgid AND r.from = 'x@x')")
 
 
 def nested(n):
@@ -130,6 +144,11 @@ def nested_ors(n):
     return " AND ".join(text) + ")" * 5
 
 
+def or_in_or():
+    """An OR of which one side has a key and an OR under it."""
+    return "EXISTS (r: DOC WHERE r.inreplyto = m.msgid OR r.from = 'x@x' AND (r.subject = m.msgid OR r.words HAS 'word7' OR r.msgid = m.inreplyto))"
+
+
 def long_text(n):
     return "m.subject = '" + "x" * n + "'"
 
@@ -164,6 +183,10 @@ ROWS = [
     ("a query with 5 EXISTS of 12 alternatives in one another", 3, lambda n: "", lambda n: asked(nested_ors(n))),
     ("a query of one long text, asked 1,000 times", 1000, lambda n: mails(100), lambda n: "at 300000000\n" + f"ask 2000 {long_text(n)}\n" * 1000),
     ("another of its subject, of which there are 20,000", 5000, mails_of_one_subject, lambda n: asked("EXISTS (r: DOC WHERE r.subject = m.subject AND r.id > m.id)")),
+    ("later of its subject, of which there are 20,000 of one second", 5000, mails_of_one_second, lambda n: asked("EXISTS (r: DOC WHERE r.subject = m.subject AND r.ts > m.ts)")),
+    ("a word that none of 20,000 of its subject has", 5000, mails_of_one_subject, lambda n: asked("NOT EXISTS (r: DOC WHERE r.subject = m.subject AND r.words HAS 'withdrawn')")),
+    ("one reference 100,000 times, to 1,000 mails", 25000, mails_of_one_id, repeated_reference),
+    ("an OR in an OR in an EXISTS, over 20,000 mails", 5000, mails, lambda n: asked(or_in_or())),
     ("64 rules over a box of 10,000", 16, lambda n: mails(10000) + BOX + rules(n), lambda n: "list all\n"),
     ("a listing of 100,000 entries", 25000, lambda n: mails(n) + BOX, lambda n: "list all\n"),
     ("a box of 100,000 entries", 25000, lambda n: mails(n) + BOX, lambda n: "box all\n"),
@@ -198,10 +221,10 @@ def main(words):
     program, collide = words[0], words[1] if len(words) > 1 else None
     print("| Shape, at its large size | Bytes | A quarter, ms | Whole, ms | Times |\n|---|---|---|---|---|", flush=True)
     for name, n, before, text in ROWS:
-        if SHAPES in name:
+        if is_chosen(name):
             line(program, name, (before(n), text(n)), (before(4 * n), text(4 * n)))
     name = "a message of words that collide"
-    if collide and SHAPES in name:
+    if collide and is_chosen(name):
         found = subprocess.run([collide, "130000", "14"], stdout=subprocess.PIPE, check=True).stdout.decode().split()
         line(program, name, ("", block("mail", ["", *found[:32500]])), ("", block("mail", ["", *found])))
 
