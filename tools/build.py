@@ -9,9 +9,9 @@
     tools/build.py plant CRATE [FLAG..]    lists the wrong bodies that its contracts let through; flags of rt plant
 
 libs and program prove from nothing, by the gate's code and with its verdict; so do the others what stands below CRATE. A crate
-is proved once for each text of its files and of the libraries below: what another checkout proved, or `rt ci` in any checkout,
-is taken, and what one of them proves now is waited for. If only tests or comments changed, nothing above is proved again. check,
-tests, edits and plant are no verdict: they take what earlier checks of CRATE here left in out/incremental.
+is proved once for each text of its files and of the libraries below: what another checkout proved is taken, and what it proves
+now is waited for; so is an `rt ci` in any checkout, if the kit's has a store. If only tests or comments changed, nothing above is
+proved again. check, tests, edits and plant are no verdict: they take what earlier checks of CRATE here left in out/incremental.
 `program CRATE --ask` proves nothing: its status is 0 if the program stands there, built of these files.
 
 LANES=N is how many processors are shared out, and how many compilers run on this machine at a time (all processors). JOBS=N is
@@ -268,10 +268,10 @@ def edits(gate: Gate, crate: Any, wanted: List[str]) -> int:
 
     def is_refused(name: str) -> bool:
         with Lane(), tempfile.TemporaryDirectory(prefix="build-edit-") as room:
-            gate.rt.linked(f"{crate.folder}/{gate.rt.rtlib.KEPT[1]}", f"{room}/over")
+            shutil.copytree(f"{crate.folder}/{gate.rt.rtlib.KEPT[1]}", f"{room}/over")
             kind, text = gate.rt.must_fail(crate, found[name], ["--jobs", "1"], f"{room}/over")
         print(text, flush=True)
-        return kind in (gate.rt.REFUSED, gate.rt.AT_LIMIT)
+        return kind in gate.refusals
 
     with ThreadPoolExecutor(LANES) as pool:
         return 0 if all([*pool.map(is_refused, wanted or sorted(found))]) else 1

@@ -1,9 +1,10 @@
 """What the gate says of a crate, by the gate's own code, and the store of what was proved on this machine.
 
-The store is the folder STORE of the user's cache, for all checkouts. It has one key, that of the gate (`Kept.key`): a sum of the
-kit, of HANDLES, of the crate's line in crates.txt and of each file of its src/, specs/ and proofs/, and of what the libraries
-below it hold. STORE/KEY/out has what was made: rlib/NAME.rlib or the program NAME. What `rt ci` keeps on this machine has the
-same key, and is taken. Nothing is ever put there: no verdict of the gate rests on this tool.
+The store is the folder STORE of the user's cache, for all checkouts. It has one key: a sum of the kit, of HANDLES, of the crate's
+line in crates.txt and of each file of its src/, specs/, proofs/ and c/, and of what the libraries below it hold. STORE/KEY/out
+has what was made: rlib/NAME.rlib or the program NAME. If the kit's `rt ci` has a store too (`Kept`), the key is that of the gate,
+and what `rt ci` keeps on this machine is taken; else `OwnKept` makes the key. Nothing is ever put into the gate's store: no
+verdict of the gate rests on this tool.
 
 A library carries the text of its proofs, which no crate above reads, and each library names the sums of those below it. So that
 a comment in a proof proves nothing above again, a crate that was proved anew gets a library of the store that is the same but
@@ -24,7 +25,7 @@ import sys
 import tempfile
 import time
 import types
-from typing import Any, Iterator, List, Optional
+from typing import Any, Dict, Iterator, List, Optional, Tuple
 
 from plan import Uses, closure
 
@@ -38,16 +39,17 @@ STORE_MOST, STORE_STAYS = 10_000_000_000, 6 * 3600
 LOADING = 10_000
 
 # All that is used of the kit's scripts, with its parameters. A kit that has it otherwise is refused in one line.
-WRITTEN_FOR = "rattle-kit-13f"
+WRITTEN_FOR = "rattle-kit-13b and rattle-kit-13f"
 WANTED = """
     Crate.below(self) Crate.link(self,made,program) Crate.prove(self,*commands) Crate.words(self,flags,tests,keeps,as_source)
-    Kept(crates,anew) Kept.give(self,crate,tests,key) Kept.is_built(self,crate) Kept.key(self,crate)
-    crates_of(root) handles_of(root) need(crate) free() touched(crate) stop_on_words(crate) REACHES RENAMES IGNORED
-    edits_of(crate) linked(folder,to) must_fail(crate,edit,flags,kept) REFUSED AT_LIMIT
-    rtlib.code_of(folder) rtlib.fmt(folder,flag,out,diff) rtlib.guarded() rtlib.lock(crates) rtlib.KEPT rtlib.RUNNER
+    handles_of(root) need(crate) free() stop_on_words(crate) REACHES RENAMES IGNORED
+    edits_of(crate) must_fail(crate,edit,flags,kept)
+    rtlib.code_of(folder) rtlib.crates_below(top) rtlib.fmt(folder,flag,out,diff) rtlib.guarded() rtlib.lock(crates) rtlib.KEPT rtlib.RUNNER
     rtlib.stop_on_links(folder) rtlib.stop_on_text(crate,verb) rtlib.stop_on_unread(top,crates)
 """
-OF_A_CRATE, OF_KEPT = "folder name deps rlib is_program out allowed", "at rlibs"
+# The same of a kit whose `rt ci` has a store, as its `Kept` shows.
+WANTED_OF_A_STORE = "Kept(crates,anew) Kept.give(self,crate,tests,key) Kept.is_built(self,crate) Kept.key(self,crate) REFUSED AT_LIMIT"
+OF_A_CRATE, OF_KEPT = "folder name deps of_kit said rlib is_program out allowed", "at rlibs"
 OF_PLANT = "main(*words) SECONDS rt.main(verb,*words) rt.KEPT rt.Crate(folder,root,known,above,name)"
 
 
@@ -110,6 +112,30 @@ def is_held(path: str) -> bool:
     return False
 
 
+class OwnKept:
+    """The keys of crates, and the sums of what was made of them, for a kit whose `rt ci` has no store."""
+
+    at: Optional[str] = None
+
+    def __init__(self, top: str) -> None:
+        self.rlibs: Dict[str, str] = {}
+        self.of_all = [read(f"{KIT}/KIT-ID"), read(f"{top}/HANDLES")]
+
+    def key(self, crate: Any) -> str:
+        """Returns a sum of all that a crate is proved of."""
+        below = [(it.name, self.rlibs[it.name]) for it in crate.below()]
+        options = sorted((it, value) for it, value in crate.said.items() if it not in ("name", "deps"))
+        named = [crate.name, crate.of_kit, [it.name for it in crate.deps], below, touched(crate), *options]
+        return hashlib.sha256(repr([self.of_all, named]).encode()).hexdigest()
+
+    def is_built(self, crate: Any) -> None:
+        """Takes the sum of what was made in a crate's folder."""
+        made = f"{crate.folder}/out/{crate.name}" if crate.is_program else f"{crate.folder}/out/rlib/{crate.name}.rlib"
+        files = [f"{at}/{it}" for at, _, names in os.walk(made) for it in names] or [made]
+        sums = [(os.path.relpath(it, made), sum_of(it)) for it in sorted(files)]
+        self.rlibs[crate.name] = hashlib.sha256(repr(sums).encode()).hexdigest()
+
+
 class Gate:
     """The crates of a checkout, what the gate says of them, and what is proved of them on this machine."""
 
@@ -119,9 +145,15 @@ class Gate:
             os.environ.pop(name, None)
         self.top, self.rt = top, load("rt", WANTED)
         self.rt.Crate.allowed = self.rt.handles_of(top)
-        self.every = self.rt.crates_of(top)
+        # As `rt ci` does: `crates_below` makes crates of this class.
+        self.rt.rtlib.Crate = self.rt.Crate
+        self.every = self.rt.rtlib.crates_below(top)
         self.crates = {it.name: it for it in self.every}
-        self.kept = self.rt.Kept(self.every)
+        has_store = hasattr(self.rt, "Kept")
+        hold(lacking(self.rt, WANTED_OF_A_STORE) if has_store else [])
+        self.kept: Any = self.rt.Kept(self.every) if has_store else OwnKept(top)
+        # What `must_fail` says of a wrong body that the prover refuses.
+        self.refusals = (self.rt.REFUSED, self.rt.AT_LIMIT) if has_store else (True,)
         if os.environ.get("ALONE"):
             self.kept.at = None
         hold(lacking(self.every[0], OF_A_CRATE) + lacking(self.kept, OF_KEPT))
@@ -157,11 +189,13 @@ class Gate:
 
         What is said goes to crate.out, a file.
         """
-        files, why = self.rt.touched(crate), self.why_refused(crate)
+        files, changed = touched(crate), "its files changed while it was proved: run this again"
+        # The key was made before a lane was free.
+        why = changed if self.kept.key(crate) != key else self.why_refused(crate)
         with self.room(crate.name) as room:
             is_proved = not why and self.make(crate, jobs, room)
-            if is_proved and self.rt.touched(crate) != files:
-                why = "its files changed while it was proved: run this again"
+            if is_proved and touched(crate) != files:
+                why = changed
             elif is_proved:
                 use_like(f"{room}/out", crate.name)
                 self.enter(crate, key, room)
@@ -221,9 +255,9 @@ class Gate:
     def is_at_work(self, key: str) -> bool:
         """Returns whether another checkout, or an `rt ci` of this machine, proves the same now.
 
-        If a kit names the lock of `rt ci` otherwise, what it proves isn't waited for.
+        If a kit names the lock of `rt ci` otherwise, or has no store, what it proves isn't waited for.
         """
-        return is_held(f"{STORE}/lock-{key}") or is_held(f"{self.kept.at}/lock-proof-{key[:32]}")
+        return is_held(f"{STORE}/lock-{key}") or bool(self.kept.at) and is_held(f"{self.kept.at}/lock-proof-{key[:32]}")
 
 
 def seen_above(library: str) -> List[str]:
@@ -266,6 +300,11 @@ def shrink_store() -> None:
         if much > STORE_MOST and used < time.time() - STORE_STAYS:
             shutil.rmtree(path, ignore_errors=True)
             much -= size
+
+
+def touched(crate: Any) -> List[Tuple[str, str]]:
+    """Returns the files that a crate's proof reads, each with its sum."""
+    return [(os.path.relpath(it, crate.folder), sum_of(it)) for it in files_of(crate.folder)]
 
 
 def files_of(folder: str) -> List[str]:

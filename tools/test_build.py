@@ -1,7 +1,10 @@
 #!/usr/bin/env python3
 """Tests of the tools themselves, without a proof: python3 tools/test_build.py"""
 
+import contextlib
+import io
 import os
+import shutil
 import sys
 import tempfile
 import unittest
@@ -190,8 +193,8 @@ class ProverTest(unittest.TestCase):
         self.assertEqual((is_well, sorted(proved)), (True, ["b", "low", "top"]))
 
 
-class StampTest(unittest.TestCase):
-    USES = {"app": ["low"], "low": [], "other": []}
+class FilesTest(unittest.TestCase):
+    """Tests over a checkout of three crates."""
 
     def setUp(self) -> None:
         held = tempfile.TemporaryDirectory()
@@ -204,6 +207,67 @@ class StampTest(unittest.TestCase):
         os.makedirs(os.path.dirname(f"{self.top}/{path}"), exist_ok=True)
         with open(f"{self.top}/{path}", "w", encoding="utf-8") as it:
             it.write(text)
+
+
+class OwnKeptTest(FilesTest):
+    LIBRARY = "crates/low/out/rlib/low.rlib"
+
+    def setUp(self) -> None:
+        super().setUp()
+        self.write(f"{self.LIBRARY}/format", "dep std")
+        self.write("HANDLES", "Handles allowed: none.")
+
+    def key(self, **changed: Any) -> str:
+        """Returns the key of app, of which something is changed, over low as it was built."""
+        low = SimpleNamespace(name="low", folder=f"{self.top}/crates/low", is_program=False)
+        app = SimpleNamespace(name="app", folder=f"{self.top}/crates/app", is_program=True, deps=[low], of_kit=["std", "jiff"])
+        app.below, app.said = lambda: [low], {"name": "app", "deps": ["//crates/low", "@rattle//jiff"]}
+        app.__dict__.update(changed)
+        kept = gate.OwnKept(self.top)
+        kept.is_built(low)
+        return kept.key(app)
+
+    def test_each_file_that_a_proof_reads_changes_it(self) -> None:
+        seen = [self.key()]
+        paths = [f"crates/app/{it}" for it in ("src/main.rt", "src/more.rt", "specs/C.antt", "proofs/main/D.antt", "c/app.c")]
+        for path in [*paths, "HANDLES", f"{self.LIBRARY}/format", f"{self.LIBRARY}/lang/antt/specs/A.antt"]:
+            self.write(path, "two")
+            self.assertNotIn(self.key(), seen, path)
+            seen.append(self.key())
+        os.rename(f"{self.top}/crates/app/src/more.rt", f"{self.top}/crates/app/src/moved.rt")
+        self.assertNotIn(self.key(), seen)
+
+    def test_the_kit_and_the_line_in_crates_txt_change_it(self) -> None:
+        seen = [self.key()]
+        for changed in ({"name": "other"}, {"deps": []}, {"of_kit": ["std"]}, {"of_kit": ["core", "jiff"]}, {"said": {"backend": "rattle"}}):
+            self.assertNotIn(self.key(**changed), seen, changed)
+            seen.append(self.key(**changed))
+        self.write("kit/KIT-ID", "another kit")
+        with mock.patch.object(gate, "KIT", f"{self.top}/kit"):
+            self.assertNotIn(self.key(), seen)
+
+    def test_nothing_else_changes_it(self) -> None:
+        before = self.key()
+        paths = ["app/out/app", "app/must-fail/a.edit", "app/stdin", "low/src/lib.rt", "low/proofs/B.antt", "other/src/lib.rt"]
+        for path in [*(f"crates/{it}" for it in paths), "crates.txt", "docs/KIT.md"]:
+            self.write(path, "two")
+            self.assertEqual(self.key(), before, path)
+        os.utime(f"{self.top}/crates/app/src/main.rt", (1, 1))
+        self.assertEqual(self.key(), before)
+        shutil.copytree(self.top, f"{self.top}/clone")
+        self.top += "/clone"
+        self.assertEqual(self.key(), before)
+
+
+    def test_a_crate_that_changed_before_its_turn_is_not_proved(self) -> None:
+        it = SimpleNamespace(kept=SimpleNamespace(key=lambda _: "new"), room=lambda _: contextlib.nullcontext(), make=self.fail)
+        crate = SimpleNamespace(name="low", folder=f"{self.top}/crates/low", out=io.StringIO())
+        self.assertFalse(gate.Gate.prove(it, crate, "old", 1))
+        self.assertIn("changed", crate.out.getvalue())
+
+
+class StampTest(FilesTest):
+    USES = {"app": ["low"], "low": [], "other": []}
 
     def stamp(self) -> str:
         return gate.stamp(self.top, self.USES, "app")
@@ -268,8 +332,17 @@ class KitTest(unittest.TestCase):
 
     @unittest.skipUnless(os.path.isfile(f"{gate.KIT}/bin/rt"), "no kit is here")
     def test_this_kit_has_what_is_used(self) -> None:
-        self.assertEqual(gate.lacking(gate.load("rt", ""), gate.WANTED), [])
+        rt = gate.load("rt", "")
+        self.assertEqual(gate.lacking(rt, gate.WANTED), [])
+        self.assertEqual(gate.lacking(rt, gate.WANTED_OF_A_STORE) if hasattr(rt, "Kept") else [], [])
         self.assertEqual(gate.lacking(gate.load("rt-plant", ""), gate.OF_PLANT), [])
+
+    @unittest.skipUnless(os.path.isfile(f"{gate.KIT}/bin/rt"), "no kit is here")
+    def test_this_kit_finds_the_crates_of_this_checkout(self) -> None:
+        with tempfile.TemporaryDirectory() as store, mock.patch.object(gate, "STORE", store):
+            crates = gate.Gate(TOP).crates
+        uses = plan.read_uses(gate.read(f"{TOP}/crates.txt"))
+        self.assertEqual({it.name: [used.name for used in it.deps] for it in crates.values()}, {it: [x for x in uses[it] if x in uses] for it in uses})
 
 
 if __name__ == "__main__":
