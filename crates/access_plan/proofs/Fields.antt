@@ -1,5 +1,5 @@
--- Sides of an equation: which one is a variable's field, and that an equation may be turned round.
-use Rattle.std.proofs.Common.{◌≡◌, ◌∙◌, refl, sym, ap, subst, true, ℤ, pos, ℕ, List, [], Option, Some, None}
+-- Sides of an equation, and that it may be turned round.
+use Rattle.std.proofs.Common.{◌≡◌, ◌∙◌, refl, sym, ap, subst, true, ℤ, pos, ℕ, List, Option, Some, None}
 use Rattle.std.specs.Ordering.{int_eq, is_eq}
 use Rattle.std.specs.Cmp.Lexicographic.{bytes_decides}
 use Rattle.std.proofs.lemmas.Bool.{false≢true}
@@ -8,12 +8,9 @@ use Rattle.std.proofs.lemmas.Map.Text.{is_eq-slice_cmp}
 use Rattle.tap_base.specs.declared.numbers.Op.TheVariants.{Eq}
 use Rattle.tql_core.specs.declared.atom.NumExpr.{NumExpr}
 use Rattle.tql_core.specs.declared.atom.NumExpr.TheVariants.{Literal}
-use Rattle.tql_core.specs.declared.atom.TextExpr.{TextExpr}
-use Rattle.tql_core.specs.declared.atom.TextExpr.TheVariants as X
 use Rattle.tql_core.specs.declared.atom.Atom.{Atom}
-use Rattle.tql_core.specs.declared.atom.Atom.TheVariants.{Numbers, Texts}
+use Rattle.tql_core.specs.declared.atom.Atom.TheVariants.{Numbers}
 use Rattle.tql_core.specs.contracts.atom.NumExprPartialEq.TheImpl as num_expr
-use Rattle.tql_core.specs.contracts.atom.TextExprPartialEq.TheImpl as text_expr
 use Rattle.tql_core.specs.Exact.{atom_is}
 use Rattle.tql_core.specs.Values.{text_cmp, both, both_texts}
 
@@ -21,16 +18,9 @@ abbrev left_number : Atom → NumExpr
 left_number (Numbers x op y) = x
 left_number _ = Literal (pos 0)
 
-abbrev left_text : Atom → TextExpr
-left_text (Texts x op y) = x
-left_text _ = X.Literal []
-
--- expressions that compare as equal are the same
+-- numbers of expressions that compare as equal are the same
 pub number_is : (x y : NumExpr) → num_expr.ghosts.eq x y ≡ true → x ≡ y
 number_is x y h = ap left_number (atom_is (Numbers x Eq (Literal (pos 0))) (Numbers y Eq (Literal (pos 0))) (rw h refl))
-
-pub text_is : (x y : TextExpr) → text_expr.ghosts.eq x y ≡ true → x ≡ y
-text_is x y h = ap left_text (atom_is (Texts x Eq (X.Literal [])) (Texts y Eq (X.Literal [])) (rw h refl))
 
 -- an equation is true the other way round too
 pub both_round : (x y : Option ℤ) → both Eq x y ≡ true → both Eq y x ≡ true

@@ -8,7 +8,8 @@ use Rattle.time_marks.specs.declared.mark.Step.{Step}
 use Rattle.time_marks.specs.declared.ranged.Ranged.{Ranged}
 use Rattle.access_plan.specs.declared.access.Access.{Access}
 use Rattle.access_plan.specs.declared.reach.Reach.{Reach}
-use Rattle.access_plan.specs.Accesses.{first_some, is_bound, index_access, whole}
+use Rattle.access_plan.specs.declared.access.Access.TheVariants.{Whole}
+use Rattle.access_plan.specs.Accesses.{first_some, is_bound, index_access}
 
 -- the variable of the driving row, if there is one
 abbrev pub driven : Base → List Var
@@ -28,7 +29,7 @@ by_index bound step = if is_bound bound step.var.0 then None
 
 -- a step that is still to be bound, by all rows of its table
 abbrev pub by_table : List Var → Step → Option Reach
-by_table bound step = if is_bound bound step.var.0 then None else Some (reach_of step (whole step.table))
+by_table bound step = if is_bound bound step.var.0 then None else Some (reach_of step (Whole step.table))
 
 -- which step is bound next: the first one that has an access of the index, else the first one
 abbrev pub next_reach : List Step → List Var → Option Reach

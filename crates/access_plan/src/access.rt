@@ -4,25 +4,19 @@ ghost use Rattle.std.specs.Prelude.{◌≡◌};
 ghost use Rattle.access_plan.specs.Views.{access_at};
 
 use crate::AccessRef;
-use tql_core::{NumExpr, TextExpr, Var};
+use tql_core::{ListField, NumExpr, NumField, TextExpr, TextField, Var};
+use tql_tree::Table;
 
-/// The access to the rows of a variable: the document of a number, the documents whose Message-ID,
-/// In-Reply-To, sender or Subject (RFC 5322 3.6) is a text, those whose Message-ID is among the
-/// References of another variable's row, those with a text among their References or with a word,
-/// the notes on the document of a number, or all rows of the table.
+/// The access to the rows of a variable: those of which a field is a number or a text, those with a
+/// text in a list, those of which a field is one of the texts in a list of another variable's row,
+/// or all rows of a table.
 #[derive(PartialEq, Eq, Drop)]
 pub enum Access {
-    ById(NumExpr),
-    ByMsgId(TextExpr),
-    ByParent(TextExpr),
-    BySender(TextExpr),
-    BySubject(TextExpr),
-    ReferencedBy(Var),
-    ByReference(TextExpr),
-    ByWord(TextExpr),
-    NotesOf(NumExpr),
-    AllDocs,
-    AllNotes,
+    ByNumber(NumField, NumExpr),
+    ByText(TextField, TextExpr),
+    ByEntry(ListField, TextExpr),
+    ByEach(Var, ListField, TextField),
+    Whole(Table),
 }
 
 impl Access {
@@ -31,17 +25,11 @@ impl Access {
         ensures { access_at result ≡ self.now }
     {
         match self {
-            Access::ById(e) => AccessRef::ById(*e),
-            Access::ByMsgId(e) => AccessRef::ByMsgId(e),
-            Access::ByParent(e) => AccessRef::ByParent(e),
-            Access::BySender(e) => AccessRef::BySender(e),
-            Access::BySubject(e) => AccessRef::BySubject(e),
-            Access::ReferencedBy(var) => AccessRef::ReferencedBy(*var),
-            Access::ByReference(e) => AccessRef::ByReference(e),
-            Access::ByWord(e) => AccessRef::ByWord(e),
-            Access::NotesOf(e) => AccessRef::NotesOf(*e),
-            Access::AllDocs => AccessRef::AllDocs,
-            Access::AllNotes => AccessRef::AllNotes,
+            Access::ByNumber(field, e) => AccessRef::ByNumber(*field, *e),
+            Access::ByText(field, e) => AccessRef::ByText(*field, e),
+            Access::ByEntry(list, e) => AccessRef::ByEntry(*list, e),
+            Access::ByEach(var, list, field) => AccessRef::ByEach(*var, *list, *field),
+            Access::Whole(table) => AccessRef::Whole(*table),
         }
     }
 }

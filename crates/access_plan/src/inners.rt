@@ -1,34 +1,19 @@
 //! The accesses to the rows of each EXISTS of a pool, found once.
 
-ghost use Rattle.std.specs.Prelude.{◌≡◌, [], ◌∷◌, ◌++◌, IfOk, OnOk, Option};
+ghost use Rattle.std.specs.Prelude.{◌≡◌, [], ◌∷◌, ◌++◌, IfOk, OnOk};
 ghost use Rattle.tap_base.specs.Bytes.{IsPlaceOf};
 ghost use Rattle.tql_core.specs.Trees.{tree_at};
 ghost use Rattle.time_marks.specs.Marks.{guards_of};
-ghost use Rattle.access_plan.specs.Accesses.{is_other, access_by, accesses_by};
+ghost use Rattle.access_plan.specs.Accesses.{is_other, accesses_by};
 ghost use Rattle.access_plan.specs.Inners.{exists_accesses, inners_of};
-ghost use Rattle.access_plan.specs.Views.{is_known, option_access};
 
-use crate::guards::guard_access;
-use crate::kind::near_kinds;
-use crate::{Access, AccessRef, Known};
+use crate::guards::access_by;
+use crate::{Access, Known};
 use node_pool::{NodeId, Pool};
 use std::alloc::Global;
 use tap_base::{Memory, Rows};
 use tql_core::{Atom, TNode, Var, node_at};
 use tql_tree::Table;
-
-/// Returns the access of the index that the guard gives, of whichever kind. `None` comes if and
-/// only if it gives none.
-pub fn access_by<'a>(known: Known, var: Var, table: Table, guard: &'a Atom) -> Option<AccessRef<'a>>
-    ensures { option_access result ≡ access_by (is_known known.entry) var table guard.now }
-{
-    for kind in near_kinds(table) {
-        if let Some(access) = guard_access(known, var, *kind, guard) {
-            return Some(access);
-        }
-    }
-    None
-}
 
 // Appends the access that the guard gives, beside rows of all other variables, if it gives one.
 fn add_access(var: Var, table: Table, guard: &Atom, into: &mut Rows<Access>) -> Result<(), Memory>

@@ -7,11 +7,10 @@ ghost use Rattle.access_plan.specs.Orders.{orders_of};
 ghost use Rattle.access_plan.specs.Inners.{inners_of};
 ghost use Rattle.access_plan.specs.Views.{option_reach};
 
-use crate::access_ref::whole;
 use crate::guards::index_access;
 use crate::inners::inners_of;
 use crate::known::is_bound;
-use crate::{Known, Plan, Reach, ReachRef};
+use crate::{AccessRef, Known, Plan, Reach, ReachRef};
 use std::alloc::Global;
 use tap_base::{Memory, Rows};
 use time_marks::{Ranged, RangedQuery, Step};
@@ -62,7 +61,7 @@ fn by_table<'a>(bound: &[Var], step: &'a Step) -> Option<ReachRef<'a>>
     Some(ReachRef {
         var: step.var,
         table: step.table,
-        access: whole(step.table),
+        access: AccessRef::Whole(step.table),
     })
 }
 

@@ -1,8 +1,7 @@
 -- What the question for replies costs.
 use Rattle.std.proofs.Common.{◌≡◌, ◌∙◌, ℕ, ◌+◌, ◌*◌, ◌≤◌, ℤ, pos, Bool, true, false, ◌&&◌, ◌||◌, Option, Some, None, List, [], ◌∷◌, ◌++◌}
 use Rattle.std.proofs.Common.{length, map, refl, sym, ap, subst, inl, inr, arith, filter, if◌then◌else◌}
-use Rattle.std.specs.Prelude.{◌+ℤ◌, neg_ℤ, not, unwrap_or, option_map, option_to_list, nat_le}
-use Rattle.std.specs.Option.{option_or}
+use Rattle.std.specs.Prelude.{◌+ℤ◌, neg_ℤ, not, unwrap_or, option_to_list, nat_le}
 use Rattle.std.proofs.lemmas.Int.{ints}
 use Rattle.std.proofs.lemmas.Bool.{and_parts, false≢true}
 use Rattle.tap_base.specs.declared.numbers.Op.TheVariants.{Eq, Le}
@@ -28,10 +27,9 @@ use Rattle.time_marks.specs.Probes.{Probe}
 use Rattle.row_index.specs.Orders.{in_window, doc_arrival}
 use Rattle.row_index.proofs.ListWindows.{mapped_length}
 use Rattle.access_plan.specs.declared.access.Access.{Access}
-use Rattle.access_plan.specs.declared.access.Access.TheVariants.{ByMsgId, ByParent}
-use Rattle.access_plan.specs.declared.kind.AccessKind.TheVariants as K
+use Rattle.access_plan.specs.declared.access.Access.TheVariants.{ByText, Whole}
 use Rattle.access_plan.specs.declared.reach.Reach.{Reach}
-use Rattle.access_plan.specs.Accesses.{admits, is_held, is_other, whole, first_some, guard_access}
+use Rattle.access_plan.specs.Accesses.{admits, is_held, is_other}
 use Rattle.access_plan.specs.Nearest.{IsNearest}
 use Rattle.access_plan.specs.Orders.{order_of}
 use Rattle.access_plan.proofs.Nearests.{nearest_serves}
@@ -117,11 +115,11 @@ one_walked f (row ∷ rows) h = let e = h row (inl refl) in rw e (omega arith)
 
 module _ (T : Tables) (at : Term) (known : base_known (is_other reply_var) at.base ≡ true) (env : Env) where
   abbrev by_parent : Access
-  by_parent = ByParent (Field document_var MsgId)
+  by_parent = ByText InReplyTo (Field document_var MsgId)
 
   body_access : inner_access T reply_var Docs (inner_part at) env ≡ by_parent
   body_access =
-      ap (λ c. unwrap_or (if c && true then Some by_parent else None) (whole Docs)) (self_le (length (all_rows_by by_parent env T)))
+      ap (λ c. unwrap_or (if c && true then Some by_parent else None) (Whole Docs)) (self_le (length (all_rows_by by_parent env T)))
 
   abbrev parts : List Atom
   parts = Times (arrival_term reply_var) Le at ∷ Texts (Field reply_var InReplyTo) Eq (Field document_var MsgId) ∷ []
@@ -154,13 +152,11 @@ module _ (T : Tables) (at : Term) (known : base_known (is_other reply_var) at.ba
 
 -- the message that a reply is to is found by its message id
 abbrev asked_access : Access
-asked_access = ByMsgId (Field path_var InReplyTo)
+asked_access = ByText MsgId (Field path_var InReplyTo)
 
 own_asked : (env : Env) → is_held env path_var.0 ≡ true → step_accesses second_probe.path env document_var Docs ≡ asked_access ∷ []
 own_asked env h =
-    ap (λ c. option_to_list (option_or (option_map ByMsgId (if c then Some (Field path_var InReplyTo) else None))
-    (first_some (λ kind. guard_access (is_held env) document_var kind reply_guard)
-    (K.ByParent ∷ K.ReferencedBy ∷ K.ByReference ∷ K.BySubject ∷ K.BySender ∷ K.ByWord ∷ []))) ++ [] ++ []) h
+    ap (λ c. option_to_list (if c then Some asked_access else None) ++ [] ++ []) h
 
 -- one alone is the shortest
 shortest_one : (T : Tables) (env : Env) (a : Access) → shortest T env (a ∷ []) ≡ Some a
@@ -176,7 +172,7 @@ asked_walked T env r v t h =
 
 one_asked : (T : Tables) → HasDistinctIds T → (o : Option (List ℕ))
     → length (filter (λ row. both_texts Eq (text_field MsgId row) o) (rows_of Docs T)) ≤ 1
-one_asked T d None = subst (λ rows. length rows ≤ 1) (no_text T.docs None MsgId refl) (omega arith)
+one_asked T d None = subst (λ rows. length rows ≤ 1) (no_text T MsgId None refl) (omega arith)
 one_asked T d (Some id) = d id
 
 second_short : (T : Tables) → HasDistinctIds T → HasShortAccesses T second_probe.path path_var 1

@@ -1,5 +1,5 @@
 -- What the question for replies costs.
-use Rattle.std.specs.Prelude.{ℕ, ◌*◌, ◌≤◌, pos, List, length}
+use Rattle.std.specs.Prelude.{ℕ, ◌*◌, ◌≤◌, pos, Some, List, length, filter}
 use Rattle.tap_base.specs.declared.numbers.Op.TheVariants.{Eq}
 use Rattle.tap_rows.specs.declared.tables.Tables.{Tables}
 use Rattle.tap_rows.specs.declared.results.Entry.{Entry}
@@ -10,6 +10,8 @@ use Rattle.tql_core.specs.declared.atom.Atom.TheVariants.{Texts}
 use Rattle.tql_core.specs.declared.atom.TextExpr.TheVariants.{Field}
 use Rattle.tql_core.specs.declared.atom.TextField.TheVariants.{MsgId, InReplyTo}
 use Rattle.tql_core.specs.Condition.{Condition, Plain, Exists}
+use Rattle.tql_core.specs.Row.{Row, rows_of}
+use Rattle.tql_core.specs.Values.{text_field, both_texts}
 use Rattle.time_marks.specs.declared.window.Window.{Window}
 use Rattle.time_marks.specs.Distinct.{distinct_probes}
 use Rattle.time_marks.specs.Marks.{document_var}
@@ -18,7 +20,6 @@ use Rattle.time_marks.specs.Seeks.{seek_of}
 use Rattle.row_index.specs.Orders.{in_window, doc_arrival}
 use Rattle.access_plan.specs.Orders.{order_of}
 use Rattle.probe_eval.specs.Drivers.{seek_var, seek_cost}
-use Rattle.probe_eval.specs.Work.{docs_of_id}
 use Rattle.monotone_rewrite.specs.Query.{window}
 use Rattle.query_form.specs.Form.{form_of}
 
@@ -29,6 +30,10 @@ reply_var = record { 0 = 1 }
 -- the query EXISTS (r: DOC WHERE r.inreplyto = m.msgid)
 abbrev pub has_reply : Condition
 has_reply = Exists reply_var Docs (Plain (Texts (Field reply_var InReplyTo) Eq (Field document_var MsgId)))
+
+-- the documents of a message id
+abbrev pub docs_of_id : Tables → List ℕ → List Row
+docs_of_id T id = filter (λ row. both_texts Eq (text_field MsgId row) (Some id)) (rows_of Docs T)
 
 -- no two documents have one message id
 abbrev pub HasDistinctIds : Tables → Type 0

@@ -1,7 +1,7 @@
 -- The rows that walks of the index hand out are those that an access admits.
 use Rattle.std.proofs.Common.{◌≡◌, ℕ, suc, ◌+◌, ◌<◌, ◌≤◌, ℤ, pos, Bool, true, false, List, [], ◌∷◌, Option, Some, None, length, refl, sym}
 use Rattle.std.proofs.Common.{ap, ◌∙◌, subst, inl, inr, arith, map, nat_eq}
-use Rattle.std.specs.Prelude.{◌||◌, ◌≤ℤ◌, int_le, option_to_list, filter}
+use Rattle.std.specs.Prelude.{◌||◌, ◌≤ℤ◌, neg_ℤ, int_le, unwrap_or, option_to_list, filter}
 use Rattle.std.specs.List.{list_any, find}
 use Rattle.std.specs.Str.{bytes_eq}
 use Rattle.std.specs.Ordering.{int_eq, is_eq}
@@ -9,20 +9,32 @@ use Rattle.std.proofs.lemmas.Int.{ints}
 use Rattle.std.proofs.lemmas.Bool.{cases_Bool}
 use Rattle.std.proofs.lemmas.Bool.Decides.{Decides-int_eq}
 use Rattle.std.proofs.lemmas.Map.Text.{is_eq-slice_cmp}
+use Rattle.std.proofs.lemmas.Option.{none-some}
 use Rattle.std.proofs.lemmas.Slice.Eq.{bytes_eq-Decides}
 use Rattle.tap_base.specs.declared.numbers.Op.TheVariants.{Eq}
 use Rattle.tap_rows.specs.declared.rows.Doc.{Doc}
 use Rattle.tap_rows.specs.declared.rows.Note.{Note}
+use Rattle.tap_rows.specs.declared.tables.Tables.{Tables}
 use Rattle.tap_rows.specs.Kept.{Each}
-use Rattle.tql_core.specs.declared.atom.NumField.TheVariants.{Id, DocOf}
+use Rattle.tql_tree.specs.declared.table.Table.TheVariants.{Docs, Notes}
+use Rattle.tql_core.specs.declared.atom.NumField.TheVariants.{Id, Size, DocOf, Value}
 use Rattle.tql_core.specs.declared.atom.TextField.{TextField}
-use Rattle.tql_core.specs.declared.atom.TextField.TheVariants.{From, Subject, MsgId, InReplyTo}
-use Rattle.tql_core.specs.declared.atom.ListField.TheVariants.{References, Words}
-use Rattle.tql_core.specs.Row.{Row, OfDoc, OfNote, arrival}
+use Rattle.tql_core.specs.declared.atom.TextField.TheVariants.{From, Subject, MsgId, InReplyTo, Author, NoteKind, NoteText}
+use Rattle.tql_core.specs.declared.atom.ListField.{ListField}
+use Rattle.tql_core.specs.declared.atom.ListField.TheVariants.{To, Cc, Newsgroups, References, Words}
+use Rattle.tql_core.specs.Row.{Row, OfDoc, OfNote, arrival, rows_of}
 use Rattle.tql_core.specs.Values.{field, both, both_texts, text_cmp, text_field, list_field, has}
-use Rattle.row_index.specs.Texts.{with_text, msgids, parents, senders, subjects, references_in, words_in}
+use Rattle.row_index.specs.declared.text_kind.TextKind.{TextKind}
+use Rattle.row_index.specs.declared.note_text_kind.NoteTextKind.{NoteTextKind}
+use Rattle.row_index.specs.Texts.{is_single, texts_of, with_text}
+use Rattle.row_index.specs.Notes.{note_texts_of, notes_with}
+use Rattle.row_index.specs.Numbers.{of_size, notes_valued}
 use Rattle.row_index.specs.Orders.{Numbered, doc_number}
 use Rattle.row_index.specs.Held.{indexed_notes}
+use Rattle.access_plan.specs.Accesses.{walked_list, text_table}
+use Rattle.probe_eval.specs.declared.kinds.FieldKind.TheVariants.{OfDocs, OfNotes}
+use Rattle.probe_eval.specs.Kinds.{field_kind, of_docs, list_kind}
+use Rattle.probe_eval.specs.Work.{rows_of_number, rows_of_text, rows_of_entry, rows_with}
 use Rattle.tap_rows.specs.Fields.{fields}
 use Rattle.tap_base.specs.Numbers.{IsMoment}
 
@@ -141,6 +153,33 @@ no_note (n ∷ ns) o out r = rw (out n.doc.0 (small n.doc.0 r.0)) (no_note ns o 
     small : (a : ℕ) → a < 4294967296 → a ≤ 4294967295
     small a h = omega (arith, h)
 
+-- the documents of a size, the notes of a value
+pub docs_of_size : (T : Tables) (o : Option ℤ) (k : ℕ) → o ≡ Some (pos k) → map OfDoc (of_size k T.docs) ≡ rows_of_number Size T o
+docs_of_size T o k e =
+    picked OfDoc (λ doc. nat_eq (fields doc).size k) (λ row. both Eq (field Size row) (Some (pos k))) T.docs (λ d.
+    same_number (fields d).size k)
+    ∙ ap (rows_of_number Size T) (sym e)
+
+pub no_size : (docs : List Doc) (o : Option ℤ) → ((k : ℕ) → k ≤ 4294967295 → both Eq (Some (pos k)) o ≡ false)
+    → Each (λ doc. (fields doc).size < 4294967296) docs → [] ≡ filter (λ row. both Eq (field Size row) o) (map OfDoc docs)
+no_size [] o out r = refl
+no_size (d ∷ ds) o out r = rw (out (fields d).size (small (fields d).size r.0)) (no_size ds o out r.1)
+  where
+    small : (a : ℕ) → a < 4294967296 → a ≤ 4294967295
+    small a h = omega (arith, h)
+
+pub notes_of_value : (T : Tables) (o : Option ℤ) (k : ℤ) → o ≡ Some k → map OfNote (notes_valued k T.notes) ≡ rows_of_number Value T o
+notes_of_value T o k e =
+    picked OfNote (λ note. int_eq note.value k) (λ row. both Eq (field Value row) (Some k)) T.notes (λ n. refl)
+    ∙ ap (rows_of_number Value T) (sym e)
+
+pub no_value : (notes : List Note) (o : Option ℤ)
+    → ((k : ℤ) → neg_ℤ (pos 9223372036854775808) ≤ℤ k → k ≤ℤ pos 9223372036854775807 → both Eq (Some k) o ≡ false)
+    → Each (λ note. (neg_ℤ (pos 9223372036854775808) ≤ℤ note.value) × (note.value ≤ℤ pos 9223372036854775807)) notes
+    → [] ≡ filter (λ row. both Eq (field Value row) o) (map OfNote notes)
+no_value [] o out r = refl
+no_value (n ∷ ns) o out r = rw (out n.value r.0.0 r.0.1) (no_value ns o out r.1)
+
 same_text : (x text : List ℕ) → bytes_eq text x ≡ is_eq (text_cmp x text)
 same_text x text = turned ∙ sym (is_eq-slice_cmp x text)
   where
@@ -163,72 +202,140 @@ pub word_asked : (xs : List (List ℕ)) (text : List ℕ)
 word_asked [] text = refl
 word_asked (x ∷ xs) text = rw (same_text x text, word_asked xs text) refl
 
--- the documents that an index finds by a text
-module _ (docs : List Doc) (text : List ℕ) where
-  pub msgid_picked : map OfDoc (with_text msgids text docs)
-      ≡ filter (λ row. both_texts Eq (text_field MsgId row) (Some text)) (map OfDoc docs)
-  unfolding fields
-  msgid_picked = picked OfDoc (λ doc. list_any (λ other. bytes_eq text other) (msgids doc)) _ docs (λ d. text_asked (fields d).msgid text)
+some_same : {A : Type 0} {x y : A} → Some x ≡ Some y → x ≡ y
+some_same e = cc
 
-  pub parent_picked : map OfDoc (with_text parents text docs)
-      ≡ filter (λ row. both_texts Eq (text_field InReplyTo row) (Some text)) (map OfDoc docs)
-  unfolding fields
-  parent_picked =
-      picked OfDoc (λ doc. list_any (λ other. bytes_eq text other) (parents doc)) _ docs (λ d. text_asked (fields d).inreplyto text)
+notes_same : {x y : NoteTextKind} → OfNotes x ≡ OfNotes y → x ≡ y
+notes_same e = cc
 
-  pub sender_picked : map OfDoc (with_text senders text docs)
-      ≡ filter (λ row. both_texts Eq (text_field From row) (Some text)) (map OfDoc docs)
-  unfolding fields
-  sender_picked = picked OfDoc (λ doc. list_any (λ other. bytes_eq text other) (senders doc)) _ docs (λ d. text_asked (fields d).from text)
+differ : {x : TextKind} {y : NoteTextKind} → OfDocs x ≡ OfNotes y → ⊥
+differ e = cc
 
-  pub subject_picked : map OfDoc (with_text subjects text docs)
-      ≡ filter (λ row. both_texts Eq (text_field Subject row) (Some text)) (map OfDoc docs)
-  unfolding fields
-  subject_picked =
-      picked OfDoc (λ doc. list_any (λ other. bytes_eq text other) (subjects doc)) _ docs (λ d. text_asked (fields d).subject text)
-
-  pub reference_picked : map OfDoc (with_text references_in text docs)
-      ≡ filter (λ row. has (list_field References row) (Some text)) (map OfDoc docs)
-  unfolding fields
-  reference_picked =
-      picked OfDoc (λ doc. list_any (λ other. bytes_eq text other) (references_in doc)) _ docs (λ d. word_asked (fields d).references text)
-
-  pub word_picked : map OfDoc (with_text words_in text docs) ≡ filter (λ row. has (list_field Words row) (Some text)) (map OfDoc docs)
-  unfolding fields
-  word_picked = picked OfDoc (λ doc. list_any (λ other. bytes_eq text other) (words_in doc)) _ docs (λ d. word_asked (fields d).words text)
-
--- the same where the text may be absent
-module _ (docs : List Doc) (o : Option (List ℕ)) where
-  pub no_text : (f : TextField) → o ≡ None → [] ≡ filter (λ row. both_texts Eq (text_field f row) o) (map OfDoc docs)
-  no_text f e = subst (λ z. [] ≡ filter (λ row. both_texts Eq (text_field f row) z) (map OfDoc docs)) (sym e)
-      (none_picked OfDoc _ docs (λ d. neither (text_field f (OfDoc d))))
+-- a field of documents, of this kind
+module _ (f : TextField) (kind : TextKind) (is : of_docs (field_kind f) ≡ Some kind) where
+  pub of_docs_table : text_table f ≡ Docs
+  of_docs_table = go f is
     where
-      neither : (x : Option (List ℕ)) → both_texts Eq x None ≡ false
-      neither None = refl
-      neither (Some x) = refl
+      go : (f : TextField) → of_docs (field_kind f) ≡ Some kind → text_table f ≡ Docs
+      go From h = refl
+      go Subject h = refl
+      go MsgId h = refl
+      go InReplyTo h = refl
+      go Author h = absurd (none-some kind h)
+      go NoteKind h = absurd (none-some kind h)
+      go NoteText h = absurd (none-some kind h)
 
-  pub no_reference : o ≡ None → [] ≡ filter (λ row. has (list_field References row) o) (map OfDoc docs)
-  no_reference e =
-      subst (λ z. [] ≡ filter (λ row. has (list_field References row) z) (map OfDoc docs)) (sym e) (none_picked OfDoc _ docs (λ d. refl))
+  pub of_docs_single : is_single kind ≡ true
+  of_docs_single = go f is
+    where
+      go : (f : TextField) → of_docs (field_kind f) ≡ Some kind → is_single kind ≡ true
+      go From h = ap is_single (sym (some_same h))
+      go Subject h = ap is_single (sym (some_same h))
+      go MsgId h = ap is_single (sym (some_same h))
+      go InReplyTo h = ap is_single (sym (some_same h))
+      go Author h = absurd (none-some kind h)
+      go NoteKind h = absurd (none-some kind h)
+      go NoteText h = absurd (none-some kind h)
 
-  pub no_word : o ≡ None → [] ≡ filter (λ row. has (list_field Words row) o) (map OfDoc docs)
-  no_word e = subst (λ z. [] ≡ filter (λ row. has (list_field Words row) z) (map OfDoc docs)) (sym e) (none_picked OfDoc _ docs (λ d. refl))
+  -- a document has at most one text of it
+  pub of_docs_texts : (d : Doc) → texts_of kind d ≡ option_to_list (text_field f (OfDoc d))
+  of_docs_texts d = go f is
+    where
+      go : (f : TextField) → of_docs (field_kind f) ≡ Some kind → texts_of kind d ≡ option_to_list (text_field f (OfDoc d))
+      go From h = ap (λ k. texts_of k d) (sym (some_same h))
+      go Subject h = ap (λ k. texts_of k d) (sym (some_same h))
+      go MsgId h = ap (λ k. texts_of k d) (sym (some_same h))
+      go InReplyTo h = ap (λ k. texts_of k d) (sym (some_same h))
+      go Author h = absurd (none-some kind h)
+      go NoteKind h = absurd (none-some kind h)
+      go NoteText h = absurd (none-some kind h)
 
-  module _ (text : List ℕ) (e : o ≡ Some text) where
-    pub msgid_found : map OfDoc (with_text msgids text docs) ≡ filter (λ row. both_texts Eq (text_field MsgId row) o) (map OfDoc docs)
-    msgid_found = msgid_picked docs text ∙ ap (λ z. filter (λ row. both_texts Eq (text_field MsgId row) z) (map OfDoc docs)) (sym e)
+  pub doc_asked : (d : Doc) (t : List ℕ)
+      → list_any (λ other. bytes_eq t other) (texts_of kind d) ≡ both_texts Eq (text_field f (OfDoc d)) (Some t)
+  doc_asked d t = ap (list_any (λ other. bytes_eq t other)) (of_docs_texts d) ∙ text_asked (text_field f (OfDoc d)) t
 
-    pub parent_found : map OfDoc (with_text parents text docs) ≡ filter (λ row. both_texts Eq (text_field InReplyTo row) o) (map OfDoc docs)
-    parent_found = parent_picked docs text ∙ ap (λ z. filter (λ row. both_texts Eq (text_field InReplyTo row) z) (map OfDoc docs)) (sym e)
+  -- the index's list under a text has the documents of which the field is that text
+  pub docs_with : (T : Tables) (t : List ℕ) → map OfDoc (with_text (texts_of kind) t T.docs) ≡ rows_with f T t
+  docs_with T t =
+      picked OfDoc (λ doc. list_any (λ other. bytes_eq t other) (texts_of kind doc))
+      (λ row. both_texts Eq (text_field f row) (Some t)) T.docs (λ d. doc_asked d t)
+      ∙ ap (λ u. filter (λ row. both_texts Eq (text_field f row) (Some t)) (rows_of u T)) (sym of_docs_table)
 
-    pub sender_found : map OfDoc (with_text senders text docs) ≡ filter (λ row. both_texts Eq (text_field From row) o) (map OfDoc docs)
-    sender_found = sender_picked docs text ∙ ap (λ z. filter (λ row. both_texts Eq (text_field From row) z) (map OfDoc docs)) (sym e)
+-- a field of notes, of this kind
+module _ (f : TextField) (kind : NoteTextKind) (is : field_kind f ≡ OfNotes kind) where
+  of_notes_table : text_table f ≡ Notes
+  of_notes_table = go f is
+    where
+      go : (f : TextField) → field_kind f ≡ OfNotes kind → text_table f ≡ Notes
+      go From h = absurd (differ h)
+      go Subject h = absurd (differ h)
+      go MsgId h = absurd (differ h)
+      go InReplyTo h = absurd (differ h)
+      go Author h = refl
+      go NoteKind h = refl
+      go NoteText h = refl
 
-    pub subject_found : map OfDoc (with_text subjects text docs) ≡ filter (λ row. both_texts Eq (text_field Subject row) o) (map OfDoc docs)
-    subject_found = subject_picked docs text ∙ ap (λ z. filter (λ row. both_texts Eq (text_field Subject row) z) (map OfDoc docs)) (sym e)
+  of_notes_texts : (n : Note) → note_texts_of kind n ≡ option_to_list (text_field f (OfNote n))
+  of_notes_texts n = go f is
+    where
+      go : (f : TextField) → field_kind f ≡ OfNotes kind → note_texts_of kind n ≡ option_to_list (text_field f (OfNote n))
+      go From h = absurd (differ h)
+      go Subject h = absurd (differ h)
+      go MsgId h = absurd (differ h)
+      go InReplyTo h = absurd (differ h)
+      go Author h = ap (λ k. note_texts_of k n) (sym (notes_same h))
+      go NoteKind h = ap (λ k. note_texts_of k n) (sym (notes_same h))
+      go NoteText h = ap (λ k. note_texts_of k n) (sym (notes_same h))
 
-    pub reference_found : map OfDoc (with_text references_in text docs) ≡ filter (λ row. has (list_field References row) o) (map OfDoc docs)
-    reference_found = reference_picked docs text ∙ ap (λ z. filter (λ row. has (list_field References row) z) (map OfDoc docs)) (sym e)
+  pub notes_of_text : (T : Tables) (t : List ℕ) → map OfNote (notes_with (note_texts_of kind) t T.notes) ≡ rows_with f T t
+  notes_of_text T t =
+      picked OfNote (λ note. list_any (λ other. bytes_eq t other) (note_texts_of kind note))
+      (λ row. both_texts Eq (text_field f row) (Some t)) T.notes (λ n. ap (list_any (λ other. bytes_eq t other)) (of_notes_texts n)
+      ∙ text_asked (text_field f (OfNote n)) t)
+      ∙ ap (λ u. filter (λ row. both_texts Eq (text_field f row) (Some t)) (rows_of u T)) (sym of_notes_table)
 
-    pub word_found : map OfDoc (with_text words_in text docs) ≡ filter (λ row. has (list_field Words row) o) (map OfDoc docs)
-    word_found = word_picked docs text ∙ ap (λ z. filter (λ row. has (list_field Words row) z) (map OfDoc docs)) (sym e)
+-- a document has a text in a list if and only if this is one of its texts of that kind
+pub entry_asked : (l : ListField) (d : Doc) (t : List ℕ)
+    → list_any (λ other. bytes_eq t other) (texts_of (list_kind l) d) ≡ has (list_field l (OfDoc d)) (Some t)
+unfolding fields
+entry_asked To d t = word_asked (fields d).to t
+entry_asked Cc d t = word_asked (fields d).cc t
+entry_asked Newsgroups d t = word_asked (fields d).newsgroups t
+entry_asked References d t = word_asked (fields d).references t
+entry_asked Words d t = word_asked (fields d).words t
+
+pub entries_with : (T : Tables) (l : ListField) (o : Option (List ℕ)) (t : List ℕ) → o ≡ Some t
+    → map OfDoc (with_text (texts_of (list_kind l)) t T.docs) ≡ rows_of_entry l T o
+entries_with T l o t e =
+    picked OfDoc (λ doc. list_any (λ other. bytes_eq t other) (texts_of (list_kind l) doc)) (λ row. has (list_field l row) (Some t))
+    T.docs (λ d. entry_asked l d t)
+    ∙ ap (rows_of_entry l T) (sym e)
+
+-- a note has no list whose texts are looked up
+pub none_walked : (l : ListField) (note : Note) → unwrap_or (walked_list l (OfNote note)) [] ≡ []
+none_walked To note = refl
+none_walked Cc note = refl
+none_walked Newsgroups note = refl
+none_walked References note = refl
+none_walked Words note = refl
+
+-- an absent text is that of no row
+none_of : (q : Row → Bool) (rows : List Row) → ((row : Row) → q row ≡ false) → [] ≡ filter q rows
+none_of q [] h = refl
+none_of q (row ∷ rows) h = rw (h row) (none_of q rows h)
+
+pub no_text : (T : Tables) (f : TextField) (o : Option (List ℕ)) → o ≡ None → [] ≡ rows_of_text f T o
+no_text T f o e = none_of (λ row. both_texts Eq (text_field f row) None) (rows_of (text_table f) T) (λ row. neither (text_field f row))
+    ∙ ap (rows_of_text f T) (sym e)
+  where
+    neither : (x : Option (List ℕ)) → both_texts Eq x None ≡ false
+    neither None = refl
+    neither (Some x) = refl
+
+pub no_entry : (T : Tables) (l : ListField) (o : Option (List ℕ)) → o ≡ None → [] ≡ rows_of_entry l T o
+no_entry T l o e = none_of (λ row. has (list_field l row) None) (rows_of Docs T) (λ row. neither (list_field l row))
+    ∙ ap (rows_of_entry l T) (sym e)
+  where
+    neither : (xs : Option (List (List ℕ))) → has xs None ≡ false
+    neither None = refl
+    neither (Some xs) = refl

@@ -1,7 +1,7 @@
 -- Rows of a variable that no guard names beside one without a row are alike: the rest of a path exists beside all of them or beside none.
 use Rattle.std.proofs.Common.{◌≡◌, ◌∙◌, ℕ, ℤ, Bool, true, false, not, Option, Some, None, List, [], ◌∷◌, length, filter, refl, sym, ap}
 use Rattle.std.proofs.Common.{subst, inl, inr, nat_eq, if◌then◌else◌}
-use Rattle.std.specs.Prelude.{◌⊎◌, ◌&&◌, ◌||◌, is_some, option_map, unwrap_or, int_le, nat_le}
+use Rattle.std.specs.Prelude.{◌⊎◌, ◌&&◌, ◌||◌, is_some, unwrap_or, int_le, nat_le}
 use Rattle.std.specs.List.{list_any, list_all, flat_map, find}
 use Rattle.std.proofs.lemmas.Bool.{cases_Bool, and_parts, or_cases, false≢true, eq-eqb}
 use Rattle.std.proofs.lemmas.Option.{none-some, cond_some}
@@ -9,23 +9,16 @@ use Rattle.tap_base.specs.declared.numbers.Op.TheVariants.{Eq}
 use Rattle.tap_rows.specs.declared.tables.Tables.{Tables}
 use Rattle.tap_rows.specs.Kept.{In}
 use Rattle.tql_tree.specs.declared.table.Table.{Table}
-use Rattle.tql_tree.specs.declared.table.Table.TheVariants.{Docs, Notes}
+use Rattle.tql_tree.specs.declared.table.Table.TheVariants.{Docs}
 use Rattle.tql_core.specs.declared.term.Var.{Var}
-use Rattle.tql_core.specs.declared.atom.NumField.{NumField}
-use Rattle.tql_core.specs.declared.atom.NumField.TheVariants.{Id, DocOf}
-use Rattle.tql_core.specs.declared.atom.TextField.{TextField}
-use Rattle.tql_core.specs.declared.atom.TextField.TheVariants.{From, Subject, MsgId, InReplyTo}
-use Rattle.tql_core.specs.declared.atom.ListField.TheVariants.{References, Words}
+use Rattle.tql_core.specs.declared.atom.NumField.TheVariants.{Id}
+use Rattle.tql_core.specs.declared.atom.ListField.{ListField}
 use Rattle.tql_core.specs.declared.atom.NumExpr.{NumExpr}
-use Rattle.tql_core.specs.declared.atom.NumExpr.TheVariants.{Field}
+use Rattle.tql_core.specs.declared.atom.NumExpr.TheVariants.{Literal, Field}
 use Rattle.tql_core.specs.declared.atom.TextExpr.{TextExpr}
 use Rattle.tql_core.specs.declared.atom.TextExpr.TheVariants as X
 use Rattle.tql_core.specs.declared.atom.Atom.{Atom}
 use Rattle.tql_core.specs.declared.atom.Atom.TheVariants.{Numbers, Texts, Has}
-use Rattle.tql_core.specs.contracts.term.VarPartialEq.TheImpl as var
-use Rattle.tql_core.specs.contracts.atom.NumExprPartialEq.TheImpl as num_expr
-use Rattle.tql_core.specs.contracts.atom.TextExprPartialEq.TheImpl as text_expr
-use Rattle.tql_core.specs.Exact.{var_is}
 use Rattle.tql_core.specs.Row.{Row, arrival, rows_of}
 use Rattle.tql_core.specs.Values.{Env, bind, lookup, on_row, field, text_field, list_field, both, both_texts, has, true_atom}
 use Rattle.time_marks.specs.declared.mark.Step.{Step}
@@ -33,25 +26,21 @@ use Rattle.time_marks.specs.Probes.{come_by}
 use Rattle.time_marks.proofs.Lists.{any_in, any_same, all_in, or_right}
 use Rattle.time_marks.proofs.Envs.{bind_other}
 use Rattle.access_plan.specs.declared.access.Access.{Access}
-use Rattle.access_plan.specs.declared.access.Access.TheVariants.{ById, ByMsgId, ByParent, BySender, BySubject, ReferencedBy, ByReference}
-use Rattle.access_plan.specs.declared.access.Access.TheVariants.{ByWord, NotesOf, AllDocs, AllNotes}
-use Rattle.access_plan.specs.declared.kind.AccessKind.{AccessKind}
-use Rattle.access_plan.specs.declared.kind.AccessKind.TheVariants as K
+use Rattle.access_plan.specs.declared.access.Access.TheVariants.{ByNumber, ByText, ByEntry, ByEach, Whole}
 use Rattle.access_plan.specs.declared.reach.Reach.{Reach}
-use Rattle.access_plan.specs.Accesses.{table_of, admits, accesses_by, first_some, is_other, is_held, is_held_or, is_known_number}
-use Rattle.access_plan.specs.Accesses.{is_known_text, other_number, other_text, number_side, text_side, referring_side, reference_side}
-use Rattle.access_plan.specs.Accesses.{word_side, guard_access, near_kinds, whole}
+use Rattle.access_plan.specs.Accesses.{walked_list, is_walked_list, number_table, text_table, table_of, admits, is_other, is_held}
+use Rattle.access_plan.specs.Accesses.{is_held_or, is_known_number, is_known_text, is_own, by_number, by_text, by_entry, by_each}
+use Rattle.access_plan.specs.Accesses.{access_by, accesses_by}
 use Rattle.access_plan.specs.Laws.{AreSame}
-use Rattle.access_plan.specs.Nearest.{kind_access, near, nearest, IsNearest}
-use Rattle.access_plan.proofs.Admits.{made_of, one_of}
-use Rattle.access_plan.proofs.Enough.{first_of}
-use Rattle.access_plan.proofs.Fields as same
+use Rattle.access_plan.specs.Nearest.{near, nearest, IsNearest}
+use Rattle.access_plan.proofs.Admits.{one_of, own_var}
+use Rattle.access_plan.proofs.Enough.{given_on}
 use Rattle.access_plan.proofs.Nearests.{nearest_serves}
 use Rattle.probe_eval.specs.Open.{number_known, text_known, atom_known, atom_held, may_hold, are_open, path_open, is_apart, are_apart}
 use Rattle.probe_eval.specs.Open.{path_apart, may_go}
 use Rattle.probe_eval.specs.Cuts.{is_cut, passes_cut}
 use Rattle.probe_eval.specs.StepRows.{step_accesses, step_access, passes_open, passes_guards, passes_step, step_rows, next_rows}
-use Rattle.probe_eval.specs.Work.{admits_by, docs_of_id, rows_by, all_rows_by, is_list, access_length, is_least, shortest}
+use Rattle.probe_eval.specs.Work.{admits_by, rows_with_each, rows_by, all_rows_by, is_list, access_length, is_least, shortest}
 use Rattle.probe_eval.specs.Laws.{RestsAreAlike}
 use Rattle.probe_eval.specs.Rests.{all_or, rest_of}
 use Rattle.probe_eval.proofs.Costs.{filter_same}
@@ -63,165 +52,96 @@ use Rattle.probe_eval.proofs.StepLaws.{of_step}
 
 -- is each variable of an access's other side among these?
 abbrev access_known : (ℕ → Bool) → Access → Bool
-access_known known (ById e) = number_known known e
-access_known known (ByMsgId e) = text_known known e
-access_known known (ByParent e) = text_known known e
-access_known known (BySender e) = text_known known e
-access_known known (BySubject e) = text_known known e
-access_known known (ReferencedBy w) = known w.0
-access_known known (ByReference e) = text_known known e
-access_known known (ByWord e) = text_known known e
-access_known known (NotesOf e) = number_known known e
-access_known known AllDocs = true
-access_known known AllNotes = true
+access_known known (ByNumber f e) = number_known known e
+access_known known (ByText f e) = text_known known e
+access_known known (ByEntry l e) = text_known known e
+access_known known (ByEach w l f) = known w.0
+access_known known (Whole t) = true
 
 -- a guard whose variables are among some names by an access that it gives these alone, and is of one of them
-module _ (some known : ℕ → Bool) (u : Var) where
-  number_names : (f : NumField) (x y e : NumExpr) → other_number known u f x y ≡ Some e → number_known some x ≡ true
-      → number_known some y ≡ true → (some u.0 ≡ true) × (number_known some e ≡ true)
-  number_names f x y e h i j =
-      let c = cond_some (num_expr.ghosts.eq x (Field u f) && is_known_number known y) y e h in
-      let p = and_parts _ _ c.0 in
-      (subst (λ z. number_known some z ≡ true) (same.number_is x (Field u f) p.0) i, subst (λ z. number_known some z ≡ true) c.1 j)
+module _ (some known : ℕ → Bool) (u : Var) (t : Table) where
+  abbrev Names : Access → Type 0
+  Names access = (some u.0 ≡ true) × (access_known some access ≡ true)
 
-  text_names : (f : TextField) (x y e : TextExpr) → other_text known u f x y ≡ Some e → text_known some x ≡ true → text_known some y ≡ true
-      → (some u.0 ≡ true) × (text_known some e ≡ true)
-  text_names f x y e h i j =
-      let c = cond_some (text_expr.ghosts.eq x (X.Field u f) && is_known_text known y) y e h in
-      let p = and_parts _ _ c.0 in
-      (subst (λ z. text_known some z ≡ true) (same.text_is x (X.Field u f) p.0) i, subst (λ z. text_known some z ≡ true) c.1 j)
+  own_named : (w : Var) (by : Table) → is_own u t w by ≡ true → some w.0 ≡ true → some u.0 ≡ true
+  own_named w by h i = subst (λ k. some k ≡ true) (own_var u t w by h) i
 
-  by_number : (f : NumField) (a : Atom) (e : NumExpr) → number_side known u f a ≡ Some e → atom_known some a ≡ true
-      → (some u.0 ≡ true) × (number_known some e ≡ true)
-  by_number f (Numbers x Eq y) e h t =
-      let p = and_parts (number_known some x) (number_known some y) t in
-      elim (one_of (other_number known u f x y) (other_number known u f y x) e h) [
-        | inl i ↦ number_names f x y e i p.0 p.1
-        | inr i ↦ number_names f y x e i p.1 p.0
+  number_names : (x y : NumExpr) (access : Access) → by_number known u t x y ≡ Some access → number_known some x ≡ true
+      → number_known some y ≡ true → Names access
+  number_names (Literal n) y access h i j = absurd (none-some access h)
+  number_names (Field w f) y access h i j =
+      let c = cond_some (is_own u t w (number_table f) && is_known_number known y) (ByNumber f y) access h in
+      (own_named w (number_table f) (and_parts _ _ c.0).0 i, subst (λ z. access_known some z ≡ true) c.1 j)
+
+  text_names : (x y : TextExpr) (access : Access) → by_text known u t x y ≡ Some access → text_known some x ≡ true
+      → text_known some y ≡ true → Names access
+  text_names (X.Literal n) y access h i j = absurd (none-some access h)
+  text_names (X.Field w f) y access h i j =
+      let c = cond_some (is_own u t w (text_table f) && is_known_text known y) (ByText f y) access h in
+      (own_named w (text_table f) (and_parts _ _ c.0).0 i, subst (λ z. access_known some z ≡ true) c.1 j)
+
+  entry_names : (w : Var) (l : ListField) (y : TextExpr) (access : Access) → by_entry known u t w l y ≡ Some access → some w.0 ≡ true
+      → text_known some y ≡ true → Names access
+  entry_names w l y access h i j =
+      let c = cond_some (is_own u t w Docs && is_known_text known y) (ByEntry l y) access h in
+      (own_named w Docs (and_parts _ _ c.0).0 i, subst (λ z. access_known some z ≡ true) c.1 j)
+
+  each_names : (w : Var) (l : ListField) (y : TextExpr) (access : Access) → by_each known u t w l y ≡ Some access → some w.0 ≡ true
+      → text_known some y ≡ true → Names access
+  each_names w l (X.Literal n) access h i j = absurd (none-some access h)
+  each_names w l (X.Field x f) access h i j =
+      let c = cond_some ((is_own u t x (text_table f) && known w.0) && is_walked_list l) (ByEach w l f) access h in
+      (own_named x (text_table f) (and_parts _ _ (and_parts _ _ c.0).0).0 j, subst (λ z. access_known some z ≡ true) c.1 i)
+
+  guard_names : (a : Atom) (access : Access) → access_by known u t a ≡ Some access → atom_known some a ≡ true → Names access
+  guard_names (Numbers x Eq y) access h k =
+      let p = and_parts (number_known some x) (number_known some y) k in
+      elim (one_of (by_number known u t x y) (by_number known u t y x) access h) [
+        | inl i ↦ number_names x y access i p.0 p.1
+        | inr i ↦ number_names y x access i p.1 p.0
       ]
-  by_number f _ e h t = absurd (none-some e h)
-
-  by_text : (f : TextField) (a : Atom) (e : TextExpr) → text_side known u f a ≡ Some e → atom_known some a ≡ true
-      → (some u.0 ≡ true) × (text_known some e ≡ true)
-  by_text f (Texts x Eq y) e h t =
-      let p = and_parts (text_known some x) (text_known some y) t in
-      elim (one_of (other_text known u f x y) (other_text known u f y x) e h) [
-        | inl i ↦ text_names f x y e i p.0 p.1
-        | inr i ↦ text_names f y x e i p.1 p.0
+  guard_names (Texts x Eq y) access h k =
+      let p = and_parts (text_known some x) (text_known some y) k in
+      elim (one_of (by_text known u t x y) (by_text known u t y x) access h) [
+        | inl i ↦ text_names x y access i p.0 p.1
+        | inr i ↦ text_names y x access i p.1 p.0
       ]
-  by_text f _ e h t = absurd (none-some e h)
-
-  has_names : (w : Var) (y e : TextExpr) → (if var.ghosts.eq w u && is_known_text known y then Some y else None) ≡ Some e
-      → (some w.0 && text_known some y) ≡ true → (some u.0 ≡ true) × (text_known some e ≡ true)
-  has_names w y e h t =
-      let c = cond_some (var.ghosts.eq w u && is_known_text known y) y e h in
-      let p = and_parts _ _ c.0 in
-      let q = and_parts (some w.0) (text_known some y) t in
-      (subst (λ (z : Var). some z.0 ≡ true) (var_is w u p.0) q.0, subst (λ z. text_known some z ≡ true) c.1 q.1)
-
-  by_word : (a : Atom) (e : TextExpr) → word_side known u a ≡ Some e → atom_known some a ≡ true
-      → (some u.0 ≡ true) × (text_known some e ≡ true)
-  by_word (Has w Words y) e h t = has_names w y e h t
-  by_word _ e h t = absurd (none-some e h)
-
-  by_reference : (a : Atom) (e : TextExpr) → reference_side known u a ≡ Some e → atom_known some a ≡ true
-      → (some u.0 ≡ true) × (text_known some e ≡ true)
-  by_reference (Has w References y) e h t = has_names w y e h t
-  by_reference _ e h t = absurd (none-some e h)
-
-  by_referring : (a : Atom) (w : Var) → referring_side known u a ≡ Some w → atom_known some a ≡ true → (some u.0 ≡ true) × (some w.0 ≡ true)
-  by_referring (Has x References (X.Field y MsgId)) w h t =
-      let c = cond_some (var.ghosts.eq y u && known x.0) x w h in
-      let p = and_parts _ _ c.0 in
-      let q = and_parts (some x.0) (some y.0) t in
-      (subst (λ (z : Var). some z.0 ≡ true) (var_is y u p.0) q.1, subst (λ (z : Var). some z.0 ≡ true) c.1 q.0)
-  by_referring _ w h t = absurd (none-some w h)
-
-  referring_access : (side : Option Var) (access : Access) → ((w : Var) → side ≡ Some w → (some u.0 ≡ true) × (some w.0 ≡ true))
-      → option_map ReferencedBy side ≡ Some access → (some u.0 ≡ true) × (access_known some access ≡ true)
-  referring_access side access n h =
-      let m = made_of ReferencedBy side access h in
-      let k = n m.0 m.1 in
-      (k.0, subst (λ z. access_known some z ≡ true) m.2 k.1)
-
-  text_access : (make : TextExpr → Access) → ((e : TextExpr) → access_known some (make e) ≡ text_known some e)
-      → (side : Option TextExpr) (access : Access)
-      → ((e : TextExpr) → side ≡ Some e → (some u.0 ≡ true) × (text_known some e ≡ true)) → option_map make side ≡ Some access
-      → (some u.0 ≡ true) × (access_known some access ≡ true)
-  text_access make is side access n h =
-      let m = made_of make side access h in
-      let k = n m.0 m.1 in
-      (k.0, subst (λ z. access_known some z ≡ true) m.2 (is m.0 ∙ k.1))
-
-  number_access : (make : NumExpr → Access) → ((e : NumExpr) → access_known some (make e) ≡ number_known some e)
-      → (side : Option NumExpr) (access : Access)
-      → ((e : NumExpr) → side ≡ Some e → (some u.0 ≡ true) × (number_known some e ≡ true)) → option_map make side ≡ Some access
-      → (some u.0 ≡ true) × (access_known some access ≡ true)
-  number_access make is side access n h =
-      let m = made_of make side access h in
-      let k = n m.0 m.1 in
-      (k.0, subst (λ z. access_known some z ≡ true) m.2 (is m.0 ∙ k.1))
-
-  guard_names : (kind : AccessKind) (a : Atom) (access : Access) → guard_access known u kind a ≡ Some access → atom_known some a ≡ true
-      → (some u.0 ≡ true) × (access_known some access ≡ true)
-  guard_names K.ById a access h t = number_access ById (λ e. refl) (number_side known u Id a) access (λ e i. by_number Id a e i t) h
-  guard_names K.ByMsgId a access h t = text_access ByMsgId (λ e. refl) (text_side known u MsgId a) access (λ e i. by_text MsgId a e i t) h
-  guard_names K.ByParent a access h t =
-      text_access ByParent (λ e. refl) (text_side known u InReplyTo a) access (λ e i. by_text InReplyTo a e i t) h
-  guard_names K.BySender a access h t = text_access BySender (λ e. refl) (text_side known u From a) access (λ e i. by_text From a e i t) h
-  guard_names K.BySubject a access h t =
-      text_access BySubject (λ e. refl) (text_side known u Subject a) access (λ e i. by_text Subject a e i t) h
-  guard_names K.ReferencedBy a access h t = referring_access (referring_side known u a) access (λ w i. by_referring a w i t) h
-  guard_names K.ByReference a access h t =
-      text_access ByReference (λ e. refl) (reference_side known u a) access (λ e i. by_reference a e i t) h
-  guard_names K.ByWord a access h t = text_access ByWord (λ e. refl) (word_side known u a) access (λ e i. by_word a e i t) h
-  guard_names K.NotesOf a access h t =
-      number_access NotesOf (λ e. refl) (number_side known u DocOf a) access (λ e i. by_number DocOf a e i t) h
+  guard_names (Has w l y) access h k =
+      let p = and_parts (some w.0) (text_known some y) k in
+      elim (one_of (by_entry known u t w l y) (by_each known u t w l y) access h) [
+        | inl i ↦ entry_names w l y access i p.0 p.1
+        | inr i ↦ each_names w l y access i p.0 p.1
+      ]
+  guard_names _ access h k = absurd (none-some access h)
 
 -- an access gives the same rows beside environments that agree on the variables that it names
 module _ (some : ℕ → Bool) (env final : Env) (h : AreSame some env final) (b : ℤ) where
+  plain_same : (access : Access) → access_known some access ≡ true → (row : Row) → admits access final row ≡ admits access env row
+  plain_same (ByNumber f e) k row = ap (both Eq (field f row)) (number_is some env final h e k)
+  plain_same (ByText f e) k row = ap (both_texts Eq (text_field f row)) (text_is some env final h e k)
+  plain_same (ByEntry l e) k row = ap (has (list_field l row)) (text_is some env final h e k)
+  plain_same (ByEach w l f) k row = ap (λ o. has (on_row o (walked_list l)) (text_field f row)) (h w.0 k)
+  plain_same (Whole t) k row = refl
+
   admits_same : (access : Access) → access_known some access ≡ true → (row : Row)
       → admits_by b access final row ≡ admits_by b access env row
-  admits_same (ById e) k row = ap (both Eq (field Id row)) (number_is some env final h e k)
-  admits_same (ByMsgId e) k row = ap (both_texts Eq (text_field MsgId row)) (text_is some env final h e k)
-  admits_same (ByParent e) k row = ap (both_texts Eq (text_field InReplyTo row)) (text_is some env final h e k)
-  admits_same (BySender e) k row = ap (both_texts Eq (text_field From row)) (text_is some env final h e k)
-  admits_same (BySubject e) k row = ap (both_texts Eq (text_field Subject row)) (text_is some env final h e k)
-  admits_same (ReferencedBy w) k row = ap (λ o. has (on_row o (list_field References)) (text_field MsgId row)) (h w.0 k)
-  admits_same (ByReference e) k row = ap (has (list_field References row)) (text_is some env final h e k)
-  admits_same (ByWord e) k row = ap (has (list_field Words row)) (text_is some env final h e k)
-  admits_same (NotesOf e) k row = ap (both Eq (field DocOf row)) (number_is some env final h e k)
-  admits_same AllDocs k row = refl
-  admits_same AllNotes k row = refl
+  admits_same (Whole t) k row = refl
+  admits_same access k row = plain_same access k row
 
   rows_same : (access : Access) → access_known some access ≡ true → (T : Tables) → rows_by b access final T ≡ rows_by b access env T
-  rows_same (ReferencedBy w) k T = ap (λ o. flat_map (docs_of_id T) (unwrap_or (on_row o (list_field References)) [])) (h w.0 k)
+  rows_same (ByEach w l f) k T = ap (λ o. rows_with_each f T (unwrap_or (on_row o (walked_list l)) [])) (h w.0 k)
   rows_same access k T =
       filter_same (admits_by b access final) (admits_by b access env) (rows_of (table_of access) T) (admits_same access k)
 
-  plain_same : (access : Access) → access_known some access ≡ true → (row : Row) → admits access final row ≡ admits access env row
-  plain_same (ById e) k row = admits_same (ById e) k row
-  plain_same (ByMsgId e) k row = admits_same (ByMsgId e) k row
-  plain_same (ByParent e) k row = admits_same (ByParent e) k row
-  plain_same (BySender e) k row = admits_same (BySender e) k row
-  plain_same (BySubject e) k row = admits_same (BySubject e) k row
-  plain_same (ReferencedBy w) k row = admits_same (ReferencedBy w) k row
-  plain_same (ByReference e) k row = admits_same (ByReference e) k row
-  plain_same (ByWord e) k row = admits_same (ByWord e) k row
-  plain_same (NotesOf e) k row = admits_same (NotesOf e) k row
-  plain_same AllDocs k row = refl
-  plain_same AllNotes k row = refl
-
   all_rows_same : (access : Access) → access_known some access ≡ true → (T : Tables) → all_rows_by access final T ≡ all_rows_by access env T
-  all_rows_same (ReferencedBy w) k T = ap (λ o. flat_map (docs_of_id T) (unwrap_or (on_row o (list_field References)) [])) (h w.0 k)
+  all_rows_same (ByEach w l f) k T = ap (λ o. rows_with_each f T (unwrap_or (on_row o (walked_list l)) [])) (h w.0 k)
   all_rows_same access k T = filter_same (admits access final) (admits access env) (rows_of (table_of access) T) (plain_same access k)
 
   -- and a list that is as long
   length_same : (access : Access) → access_known some access ≡ true → (T : Tables)
       → access_length T final access ≡ access_length T env access
-  length_same (ById e) k T = refl
-  length_same AllDocs k T = refl
-  length_same AllNotes k T = refl
+  length_same (ByNumber Id e) k T = refl
+  length_same (Whole t) k T = refl
   length_same access k T = ap length (all_rows_same access k T)
 
 all_same : {A : Type 0} (p q : A → Bool) (xs : List A) → ((x : A) → In x xs → p x ≡ q x) → list_all p xs ≡ list_all q xs
@@ -234,10 +154,6 @@ find_same p q (x ∷ xs) h = elim (cases_Bool (q x)) [
   | inl e ↦ rw (h x (inl refl), e) refl
   | inr e ↦ rw (h x (inl refl), e) (find_same p q xs (λ y i. h y (inr i)))
 ]
-
-whole_known : (some : ℕ → Bool) (t : Table) → access_known some (whole t) ≡ true
-whole_known some Docs = refl
-whole_known some Notes = refl
 
 -- each guard names another variable, or known ones alone, and is true then on either side
 abbrev AreSettled : (ℕ → Bool) → Var → List Step → Env → Env → Type 0
@@ -305,18 +221,15 @@ module _ (T : Tables) (path : List Step) (b : ℤ) (v : Var) (known : ℕ → Bo
   reach_names : (e f : Env) → Alike e f → (r : Reach) → IsNearest path e r → access_known (is_other v) r.access ≡ true
   reach_names e f x r k = ap (access_known (is_other v)) k.access ∙ go (near path e k.step) refl
     where
-      go : (o : Option Access) → near path e k.step ≡ o
-          → access_known (is_other v) (unwrap_or (near path e k.step) (whole k.step.table)) ≡ true
-      go None q = ap (λ o. access_known (is_other v) (unwrap_or o (whole k.step.table))) q ∙ whole_known (is_other v) k.step.table
+      go : (o : Option Access) → near path e k.step ≡ o → access_known (is_other v) (unwrap_or o (Whole k.step.table)) ≡ true
+      go None q = refl
       go (Some access) q =
-          let kind = first_of (kind_access path e k.step) (near_kinds k.step.table) access q in
-          let s = first_of (λ (s : Step). first_some (guard_access (is_held e) k.step.var kind.0) s.guards) path access kind.2 in
-          let a = first_of (guard_access (is_held e) k.step.var kind.0) s.0.guards access s.2 in
-          ap (λ o. access_known (is_other v) (unwrap_or o (whole k.step.table))) q ∙ elim (settled s.0 s.1 a.0 a.1) [
-            | inl n ↦ (guard_names (is_other v) (is_held e) k.step.var kind.0 a.0 access a.2 n).1
-            | inr m ↦
-                absurd
-                (false≢true (sym k.fresh ∙ x.more k.step.var.0 (guard_names known (is_held e) k.step.var kind.0 a.0 access a.2 m.0).0))
+          let s = given_on (is_held e) k.step.var k.step.table path access q in
+          let g = s.2 in
+          elim (settled s.0 s.1 g.guard g.is_guard) [
+            | inl n ↦ (guard_names (is_other v) (is_held e) k.step.var k.step.table g.guard access g.gives n).1
+            | inr m ↦ absurd (false≢true (sym k.fresh
+                ∙ x.more k.step.var.0 (guard_names known (is_held e) k.step.var k.step.table g.guard access g.gives m.0).0))
           ]
 
   -- nor do those that guards give to a variable without a row
@@ -325,9 +238,9 @@ module _ (T : Tables) (path : List Step) (b : ℤ) (v : Var) (known : ℕ → Bo
   own_names e f x u t fresh access i =
       let s = of_step path e u t access i in
       elim (settled s.step s.is_step s.given.guard s.given.is_guard) [
-        | inl n ↦ (guard_names (is_other v) (is_held e) u s.given.kind s.given.guard access s.given.gives n).1
+        | inl n ↦ (guard_names (is_other v) (is_held e) u t s.given.guard access s.given.gives n).1
         | inr m ↦ absurd
-            (false≢true (sym fresh ∙ x.more u.0 (guard_names known (is_held e) u s.given.kind s.given.guard access s.given.gives m.0).0))
+            (false≢true (sym fresh ∙ x.more u.0 (guard_names known (is_held e) u t s.given.guard access s.given.gives m.0).0))
       ]
 
   -- so the shortest of them is the same

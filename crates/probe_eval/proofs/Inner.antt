@@ -14,8 +14,9 @@ use Rattle.tql_core.specs.Values.{Env, bind}
 use Rattle.tql_core.specs.Holds.{truth}
 use Rattle.time_marks.specs.Marks.{guards_of}
 use Rattle.access_plan.specs.declared.access.Access.{Access}
-use Rattle.access_plan.specs.Accesses.{admits, table_of, inner_accesses, whole}
-use Rattle.access_plan.proofs.Enough.{inner_accesses_are_enough, inner_accesses_keep_tables, guards_are_true, whole_admits, whole_table}
+use Rattle.access_plan.specs.declared.access.Access.TheVariants.{Whole}
+use Rattle.access_plan.specs.Accesses.{admits, table_of, inner_accesses}
+use Rattle.access_plan.proofs.Enough.{inner_accesses_are_enough, inner_accesses_keep_tables, guards_are_true}
 use Rattle.probe_eval.specs.Cuts.{passes_cuts}
 use Rattle.probe_eval.specs.Work.{all_rows_by, is_list, is_least, shortest, inner_access, cut_rows, reached}
 use Rattle.probe_eval.proofs.CutLaws.{true_passes}
@@ -42,16 +43,16 @@ module _ (T : Tables) (x : Condition) (v : Var) (t : Table) (env : Env) where
   access_admits : (row : Row) → with_row row ≡ true → admits (inner_access T v t x env) env row ≡ true
   access_admits row h = go (shortest T env (inner_accesses v t x)) refl
     where
-      go : (o : Option Access) → shortest T env (inner_accesses v t x) ≡ o → admits (unwrap_or o (whole t)) env row ≡ true
-      go None e = whole_admits t env row
+      go : (o : Option Access) → shortest T env (inner_accesses v t x) ≡ o → admits (unwrap_or o (Whole t)) env row ≡ true
+      go None e = refl
       go (Some access) e = inner_accesses_are_enough T v t x env row (pos 0) access
           (found_in (is_least T env (inner_accesses v t x)) (inner_accesses v t x) access e) h
 
   access_table : table_of (inner_access T v t x env) ≡ t
   access_table = go (shortest T env (inner_accesses v t x)) refl
     where
-      go : (o : Option Access) → shortest T env (inner_accesses v t x) ≡ o → table_of (unwrap_or o (whole t)) ≡ t
-      go None e = whole_table t
+      go : (o : Option Access) → shortest T env (inner_accesses v t x) ≡ o → table_of (unwrap_or o (Whole t)) ≡ t
+      go None e = refl
       go (Some access) e =
           inner_accesses_keep_tables v t x access (found_in (is_least T env (inner_accesses v t x)) (inner_accesses v t x) access e)
 

@@ -15,15 +15,11 @@ use Rattle.tap_rows.specs.Kept.{In, Each}
 use Rattle.tql_tree.specs.declared.table.Table.{Table}
 use Rattle.tql_tree.specs.declared.table.Table.TheVariants.{Docs}
 use Rattle.tql_core.specs.declared.term.Var.{Var}
-use Rattle.tql_core.specs.declared.atom.TextField.{TextField}
-use Rattle.tql_core.specs.declared.atom.TextField.TheVariants.{From, Subject, MsgId, InReplyTo}
-use Rattle.tql_core.specs.declared.atom.ListField.{ListField}
-use Rattle.tql_core.specs.declared.atom.ListField.TheVariants.{References, Words}
 use Rattle.tql_core.specs.declared.atom.TextExpr.TheVariants.{Literal, Field}
 use Rattle.tql_core.specs.declared.atom.Atom.{Atom}
 use Rattle.tql_core.specs.declared.atom.Atom.TheVariants.{Texts, Has}
 use Rattle.tql_core.specs.Row.{OfDoc}
-use Rattle.tql_core.specs.Values.{bind, text_field, list_field, both_texts, has, true_atom}
+use Rattle.tql_core.specs.Values.{bind, text_field, both_texts, true_atom}
 use Rattle.row_index.specs.declared.text_kind.TextKind.{TextKind}
 use Rattle.row_index.specs.Orders.{in_window, doc_arrival}
 use Rattle.row_index.specs.Texts.{texts_of, with_text}
@@ -32,11 +28,10 @@ use Rattle.time_marks.specs.declared.seek.Seek.{Seek}
 use Rattle.time_marks.specs.declared.seek.Seek.TheVariants.{Arrived, ArrivedDay}
 use Rattle.time_marks.specs.declared.window.Window.{Window}
 use Rattle.probe_eval.specs.Drivers.{stored_rows}
-use Rattle.probe_eval.specs.Literals.{field_kind, list_field_kind, kind_if, literal_kind, literal_of, list_length, shorter, rarer, rarest}
-use Rattle.probe_eval.specs.Literals.{chosen}
-use Rattle.probe_eval.proofs.AccessLists.{picked, text_asked, word_asked}
+use Rattle.probe_eval.specs.Kinds.{field_kind, of_docs, list_kind}
+use Rattle.probe_eval.specs.Literals.{kind_if, literal_kind, literal_of, list_length, shorter, rarer, rarest, chosen}
+use Rattle.probe_eval.proofs.AccessLists.{picked, doc_asked, of_docs_texts, entry_asked}
 use Rattle.probe_eval.proofs.Costs.{filter_same, filter_both}
-use Rattle.tap_rows.specs.Fields.{fields}
 use Rattle.tap_base.specs.Numbers.{IsMoment}
 
 some_same : {A : Type 0} {x y : A} → Some x ≡ Some y → x ≡ y
@@ -58,51 +53,18 @@ turned_asked : (o : Option (List ℕ)) (t : List ℕ) → list_any (λ other. by
 turned_asked None t = refl
 turned_asked (Some x) t = or_false (bytes_eq t x) ∙ sym (is_eq-slice_cmp t x)
 
-module _ (d : Doc) (t : List ℕ) where
-  field_same : (f : TextField) (kind : TextKind) → field_kind f ≡ Some kind
-      → list_any (λ other. bytes_eq t other) (texts_of kind d) ≡ both_texts Eq (text_field f (OfDoc d)) (Some t)
-  unfolding fields
-  field_same From kind h = ap (λ k. list_any (λ other. bytes_eq t other) (texts_of k d)) (sym (some_same h)) ∙ text_asked (fields d).from t
-  field_same Subject kind h = ap (λ k. list_any (λ other. bytes_eq t other) (texts_of k d)) (sym (some_same h))
-      ∙ text_asked (fields d).subject t
-  field_same MsgId kind h = ap (λ k. list_any (λ other. bytes_eq t other) (texts_of k d)) (sym (some_same h))
-      ∙ text_asked (fields d).msgid t
-  field_same InReplyTo kind h = ap (λ k. list_any (λ other. bytes_eq t other) (texts_of k d)) (sym (some_same h))
-      ∙ text_asked (fields d).inreplyto t
-  field_same _ kind h = absurd (none-some kind h)
-
-  field_turned : (f : TextField) (kind : TextKind) → field_kind f ≡ Some kind
-      → list_any (λ other. bytes_eq t other) (texts_of kind d) ≡ both_texts Eq (Some t) (text_field f (OfDoc d))
-  unfolding fields
-  field_turned From kind h = ap (λ k. list_any (λ other. bytes_eq t other) (texts_of k d)) (sym (some_same h))
-      ∙ turned_asked (fields d).from t
-  field_turned Subject kind h = ap (λ k. list_any (λ other. bytes_eq t other) (texts_of k d)) (sym (some_same h))
-      ∙ turned_asked (fields d).subject t
-  field_turned MsgId kind h = ap (λ k. list_any (λ other. bytes_eq t other) (texts_of k d)) (sym (some_same h))
-      ∙ turned_asked (fields d).msgid t
-  field_turned InReplyTo kind h = ap (λ k. list_any (λ other. bytes_eq t other) (texts_of k d)) (sym (some_same h))
-      ∙ turned_asked (fields d).inreplyto t
-  field_turned _ kind h = absurd (none-some kind h)
-
-  entry_same : (f : ListField) (kind : TextKind) → list_field_kind f ≡ Some kind
-      → list_any (λ other. bytes_eq t other) (texts_of kind d) ≡ has (list_field f (OfDoc d)) (Some t)
-  unfolding fields
-  entry_same References kind h = ap (λ k. list_any (λ other. bytes_eq t other) (texts_of k d)) (sym (some_same h))
-      ∙ word_asked (fields d).references t
-  entry_same Words kind h = ap (λ k. list_any (λ other. bytes_eq t other) (texts_of k d)) (sym (some_same h))
-      ∙ word_asked (fields d).words t
-  entry_same _ kind h = absurd (none-some kind h)
-
 -- a document has the literal if and only if the guard is true of it
 same_truth : (v : Var) (a : Atom) (kind : TextKind) → literal_kind v a ≡ Some kind → (d : Doc)
     → list_any (λ other. bytes_eq (literal_of a) other) (texts_of kind d) ≡ true_atom a (bind v (OfDoc d) [])
 same_truth v (Texts (Field u f) Eq (Literal t)) kind h d =
-    let k = kind_parts v u (field_kind f) kind h in
-    rw k.0 (field_same d t f kind k.1)
+    let k = kind_parts v u (of_docs (field_kind f)) kind h in
+    rw k.0 (doc_asked f kind k.1 d t)
 same_truth v (Texts (Literal t) Eq (Field u f)) kind h d =
-    let k = kind_parts v u (field_kind f) kind h in
-    rw k.0 (field_turned d t f kind k.1)
-same_truth v (Has u f (Literal t)) kind h d = let k = kind_parts v u (list_field_kind f) kind h in rw k.0 (entry_same d t f kind k.1)
+    let k = kind_parts v u (of_docs (field_kind f)) kind h in
+    rw k.0 (ap (list_any (λ other. bytes_eq t other)) (of_docs_texts f kind k.1 d) ∙ turned_asked (text_field f (OfDoc d)) t)
+same_truth v (Has u l (Literal t)) kind h d =
+    let k = kind_parts v u (Some (list_kind l)) kind h in
+    rw k.0 (ap (λ z. list_any (λ other. bytes_eq t other) (texts_of z d)) (sym (some_same k.1)) ∙ entry_asked l d t)
 same_truth v _ kind h d = absurd (none-some kind h)
 
 and_turned : (a b : Bool) → (a && b) ≡ (b && a)

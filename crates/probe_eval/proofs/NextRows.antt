@@ -1,6 +1,6 @@
 -- The step that is looked for next depends on which variables have a row, and not on the rows.
 use Rattle.std.proofs.Common.{◌≡◌, ◌∙◌, ℕ, Bool, true, false, is_some, Some, None, Option, List, refl, ap, sym, if◌then◌else◌, nat_eq}
-use Rattle.std.specs.Prelude.{option_map}
+use Rattle.std.specs.Prelude.{option_map, fold}
 use Rattle.std.specs.Option.{option_or}
 use Rattle.tql_core.specs.declared.term.Var.{Var}
 use Rattle.tql_core.specs.Row.{Row}
@@ -8,7 +8,8 @@ use Rattle.tql_core.specs.Values.{Env, bind, lookup}
 use Rattle.time_marks.specs.declared.mark.Step.{Step}
 use Rattle.access_plan.specs.declared.access.Access.{Access}
 use Rattle.access_plan.specs.declared.reach.Reach.{Reach}
-use Rattle.access_plan.specs.Accesses.{first_some, is_held, guard_access, near_kinds, whole}
+use Rattle.access_plan.specs.declared.access.Access.TheVariants.{Whole}
+use Rattle.access_plan.specs.Accesses.{first_some, is_held, better_by}
 use Rattle.access_plan.specs.Orders.{reach_of}
 use Rattle.access_plan.specs.Nearest.{from_row, nearest}
 use Rattle.probe_eval.specs.declared.next.Next.{Next}
@@ -19,15 +20,14 @@ use Rattle.probe_eval.proofs.GivenLaws.{sole_held}
 
 module _ (path : List Step) (known : ℕ → Bool) where
   near_known : Step → Option Access
-  near_known step =
-      first_some (λ kind. first_some (λ (s : Step). first_some (guard_access known step.var kind) s.guards) path) (near_kinds step.table)
+  near_known step = fold (λ best (s : Step). fold (better_by known step.var step.table) best s.guards) None path
 
   nearest_known : Option Reach
   nearest_known =
       option_or
       (first_some (λ (step : Step). if known step.var.0 then None else option_map (reach_of step) (from_row (near_known step))) path)
       (option_or (first_some (λ (step : Step). if known step.var.0 then None else option_map (reach_of step) (near_known step)) path)
-      (first_some (λ (step : Step). if known step.var.0 then None else Some (reach_of step (whole step.table))) path))
+      (first_some (λ (step : Step). if known step.var.0 then None else Some (reach_of step (Whole step.table))) path))
 
 is_known_nearest : (path : List Step) (env : Env) → nearest path env ≡ nearest_known path (is_held env)
 unfolding nearest_known near_known

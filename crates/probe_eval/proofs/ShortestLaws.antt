@@ -1,165 +1,155 @@
 -- The lists that accesses give, and how long they are.
-use Rattle.std.proofs.Common.{◌≡◌, ◌∙◌, ◌⊎◌, ℕ, ◌+◌, ◌≤◌, pos, Bool, true, false, Option, Some, None, List, [], ◌∷◌, ◌++◌}
+use Rattle.std.proofs.Common.{◌≡◌, ◌∙◌, ◌⊎◌, ℕ, ◌+◌, ◌≤◌, ◌<◌, ℤ, pos, Bool, true, false, Option, Some, None, List, [], ◌∷◌, ◌++◌}
 use Rattle.std.proofs.Common.{length, refl, sym, ap, subst, inl, inr, arith, map, filter, ◌*◌, if◌then◌else◌}
-use Rattle.std.specs.Prelude.{IfSome, unwrap_or, option_to_list}
-use Rattle.std.specs.List.{flat_map}
+use Rattle.std.specs.Prelude.{IfSome, is_some, unwrap_or, option_to_list, nat_lt}
+use Rattle.std.specs.List.{list_any}
+use Rattle.std.specs.Ordering.{int_eq}
+use Rattle.std.specs.Str.{bytes_eq}
 use Rattle.std.proofs.lemmas.Bool.{cases_Bool, false≢true}
+use Rattle.std.proofs.lemmas.Bool.Decides.{Decides-int_eq}
 use Rattle.std.proofs.lemmas.List.{length-append}
+use Rattle.std.proofs.lemmas.Option.{none-some}
+use Rattle.tap_base.specs.declared.numbers.Op.TheVariants.{Eq}
 use Rattle.tap_rows.specs.declared.rows.Doc.{Doc}
 use Rattle.tap_rows.specs.declared.rows.Note.{Note}
 use Rattle.tap_rows.specs.declared.tables.Tables.{Tables}
 use Rattle.tql_tree.specs.declared.table.Table.{Table}
 use Rattle.tql_tree.specs.declared.table.Table.TheVariants.{Docs, Notes}
+use Rattle.tql_core.specs.declared.atom.NumField.TheVariants.{Id, Size, DocOf, Value}
 use Rattle.tql_core.specs.declared.atom.TextExpr.{TextExpr}
-use Rattle.tql_core.specs.declared.atom.TextField.TheVariants.{From, Subject, MsgId, InReplyTo}
+use Rattle.tql_core.specs.declared.atom.TextField.{TextField}
+use Rattle.tql_core.specs.declared.atom.ListField.{ListField}
 use Rattle.tql_core.specs.declared.atom.Atom.{Atom}
 use Rattle.tql_core.specs.declared.term.Var.{Var}
 use Rattle.tql_core.specs.Condition.{Condition}
-use Rattle.tql_core.specs.Row.{Row, OfDoc, OfNote}
-use Rattle.tql_core.specs.Values.{Env, text}
+use Rattle.tql_core.specs.Row.{Row, OfDoc, OfNote, rows_of}
+use Rattle.tql_core.specs.Values.{Env, number, text, text_field, both, both_texts}
 use Rattle.time_marks.specs.declared.mark.Step.{Step}
 use Rattle.time_marks.specs.Marks.{guards_of}
 use Rattle.access_plan.specs.declared.access.Access.{Access}
-use Rattle.access_plan.specs.declared.access.Access.TheVariants.{ById, ByMsgId, ByParent, BySender, BySubject}
-use Rattle.access_plan.specs.declared.access.Access.TheVariants.{ReferencedBy, ByReference, ByWord, NotesOf, AllDocs, AllNotes}
-use Rattle.access_plan.specs.Accesses.{access_by, accesses_by, inner_accesses, is_held, whole}
+use Rattle.access_plan.specs.declared.access.Access.TheVariants.{ByNumber, ByText, ByEntry, ByEach, Whole}
+use Rattle.access_plan.specs.Accesses.{text_table, access_by, accesses_by, inner_accesses, is_held}
 use Rattle.access_plan.proofs.InnerLaws.{append_none}
+use Rattle.row_index.specs.Held.{AreSized}
+use Rattle.row_index.specs.Orders.{InPlace, doc_arrival, doc_number}
 use Rattle.row_index.specs.declared.text_kind.TextKind.{TextKind}
-use Rattle.row_index.specs.declared.text_kind.TextKind.TheVariants as K
-use Rattle.row_index.specs.Orders.{InPlace, IsRisingBy, doc_arrival, doc_number, doc_rank}
-use Rattle.row_index.specs.Texts.{texts_of, with_text, msgids}
-use Rattle.row_index.proofs.ListWindows.{listed_arrive, listed_numbers, mapped_length}
+use Rattle.row_index.specs.Texts.{texts_of, with_text}
+use Rattle.row_index.proofs.ListWindows.{mapped_length}
+use Rattle.probe_eval.specs.declared.kinds.FieldKind.{FieldKind}
+use Rattle.probe_eval.specs.declared.kinds.FieldKind.TheVariants.{OfDocs, OfNotes}
 use Rattle.probe_eval.specs.Cuts.{passes_cuts}
-use Rattle.probe_eval.specs.Shortest.{IsUnderText, IsListOf, is_many, count_ids, shorter_access, shortest_after}
-use Rattle.probe_eval.specs.SingleLists.{IsSorted, ReachesList, single_text}
+use Rattle.probe_eval.specs.Kinds.{field_kind, of_docs, list_kind}
+use Rattle.probe_eval.specs.Shortest.{IsUnderText, IsListOf, is_many, count_each, shorter_access, shortest_after}
+use Rattle.probe_eval.specs.SingleLists.{ListKey, UnderText, UnderSize, ReachesList, text_key, size_key, single_key}
 use Rattle.probe_eval.specs.declared.single_lists.SingleList.{SingleList}
 use Rattle.probe_eval.specs.StepRows.{step_accesses}
-use Rattle.probe_eval.specs.Work.{rows_by, all_rows_by, docs_of_id, is_list, access_length, shortest, cut_rows, reached}
+use Rattle.probe_eval.specs.Work.{rows_with, rows_with_each, rows_by, all_rows_by, is_list, access_length, shortest}
+use Rattle.probe_eval.specs.Work.{cut_rows, reached}
 use Rattle.probe_eval.proofs.LeastLaws.{first_least}
-use Rattle.probe_eval.proofs.AccessLists.{picked, no_text, no_reference, no_word, reference_found, word_found, msgid_picked}
+use Rattle.probe_eval.proofs.AccessLists.{picked, no_text, no_entry, no_size, entries_with}
+use Rattle.probe_eval.proofs.SingleListLaws.{sorted_if, short_key}
 
-no_text_some : {A : Type 0} {x : A} → None ≡ Some x → ⊥
-no_text_some e = cc
+-- a text of a field of documents, which gives a list
+gives_list : (k : FieldKind) (x : Option (List ℕ)) (key : ListKey) → text_key k x ≡ Some key → is_some (of_docs k) ≡ true
+gives_list (OfDocs own) x key h = refl
+gives_list (OfNotes own) x key h = absurd (none-some key h)
 
 -- a single list is the list of its access
 pub single_is_list : (T : Tables) (access : Access) (env : Env) (found : SingleList) → ReachesList T access env found
     → IsListOf T access env found.docs
 single_is_list T access env found r = record {
-  list = go access (r.text);
+  list = go access r.key;
   sorted = r.list.sorted;
-  rows = rows access r.text ∙ r.rows (pos 0);
+  rows = rows access r.key ∙ r.rows (pos 0);
 }
   where
-    go : (a : Access) → single_text a env ≡ Some r.list.text → is_list a ≡ true
-    go (ByMsgId e) h = refl
-    go (ByParent e) h = refl
-    go (BySender e) h = refl
-    go (BySubject e) h = refl
-    go (ById e) h = absurd (no_text_some h)
-    go (ReferencedBy v) h = absurd (no_text_some h)
-    go (ByReference e) h = absurd (no_text_some h)
-    go (ByWord e) h = absurd (no_text_some h)
-    go (NotesOf e) h = absurd (no_text_some h)
-    go AllDocs h = absurd (no_text_some h)
-    go AllNotes h = absurd (no_text_some h)
+    none : None ≡ Some r.list.key → ⊥
+    none h = none-some r.list.key h
 
-    rows : (a : Access) → single_text a env ≡ Some r.list.text → all_rows_by a env T ≡ rows_by (pos 0) a env T
-    rows (ByMsgId e) h = refl
-    rows (ByParent e) h = refl
-    rows (BySender e) h = refl
-    rows (BySubject e) h = refl
-    rows (ById e) h = refl
-    rows (ReferencedBy v) h = refl
-    rows (ByReference e) h = refl
-    rows (ByWord e) h = refl
-    rows (NotesOf e) h = refl
-    rows AllDocs h = absurd (no_text_some h)
-    rows AllNotes h = absurd (no_text_some h)
+    go : (a : Access) → single_key a env ≡ Some r.list.key → is_list a ≡ true
+    go (ByText f e) h = gives_list (field_kind f) (text e env) r.list.key h
+    go (ByNumber Size e) h = refl
+    go (ByNumber Id e) h = absurd (none h)
+    go (ByNumber DocOf e) h = absurd (none h)
+    go (ByNumber Value e) h = absurd (none h)
+    go (ByEntry l e) h = absurd (none h)
+    go (ByEach w l f) h = absurd (none h)
+    go (Whole t) h = absurd (none h)
+
+    rows : (a : Access) → single_key a env ≡ Some r.list.key → all_rows_by a env T ≡ rows_by (pos 0) a env T
+    rows (ByText f e) h = refl
+    rows (ByNumber f e) h = refl
+    rows (ByEntry l e) h = refl
+    rows (ByEach w l f) h = refl
+    rows (Whole t) h = absurd (none h)
+
+-- no list, or no text
+no_single : (k : FieldKind) (x : Option (List ℕ)) → text_key k x ≡ None → (is_some (of_docs k) ≡ false) ⊎ (x ≡ None)
+no_single (OfDocs own) None h = inr refl
+no_single (OfDocs own) (Some x) h = absurd (none-some (UnderText own x) (sym h))
+no_single (OfNotes own) x h = inl refl
+
+-- of a number that isn't one of 32 bits no document has the size
+out_of_sizes : (num : Option ℤ) → size_key num ≡ None → (k : ℕ) → k ≤ 4294967295 → both Eq (Some (pos k)) num ≡ false
+out_of_sizes None h k l = refl
+out_of_sizes (Some n) h k l = elim (cases_Bool (int_eq (pos k) n)) [
+  | inl e ↦ absurd (none-some (UnderSize k) (sym h ∙ short_key (Some n) k (ap Some (sym ((Decides-int_eq (pos k) n).0 e))) l))
+  | inr e ↦ e
+]
 
 -- what is found by neither is no list, or has no rows
-pub not_single : (T : Tables) (access : Access) (env : Env) → single_text access env ≡ None → is_many access ≡ false
+pub not_single : (T : Tables) (access : Access) (env : Env) → AreSized T.docs → single_key access env ≡ None → is_many access ≡ false
     → (is_list access ≡ false) ⊎ (all_rows_by access env T ≡ [])
-not_single T (ByMsgId e) env h m = inr (sym (no_text T.docs (text e env) MsgId h))
-not_single T (ByParent e) env h m = inr (sym (no_text T.docs (text e env) InReplyTo h))
-not_single T (BySender e) env h m = inr (sym (no_text T.docs (text e env) From h))
-not_single T (BySubject e) env h m = inr (sym (no_text T.docs (text e env) Subject h))
-not_single T (ById e) env h m = inl refl
-not_single T (ReferencedBy v) env h m = inl refl
-not_single T (ByReference e) env h m = absurd (false≢true (sym m))
-not_single T (ByWord e) env h m = absurd (false≢true (sym m))
-not_single T (NotesOf e) env h m = inl refl
-not_single T AllDocs env h m = inl refl
-not_single T AllNotes env h m = inl refl
+not_single T (ByText f e) env sized h m = elim (no_single (field_kind f) (text e env) h) [
+  | inl n ↦ inl n
+  | inr n ↦ inr (sym (no_text T f (text e env) n))
+]
+not_single T (ByNumber Id e) env sized h m = inl refl
+not_single T (ByNumber Size e) env sized h m = inr (sym (no_size T.docs (number e env) (out_of_sizes (number e env) h) sized))
+not_single T (ByNumber DocOf e) env sized h m = inl refl
+not_single T (ByNumber Value e) env sized h m = inl refl
+not_single T (ByEntry l e) env sized h m = absurd (false≢true (sym m))
+not_single T (ByEach w l f) env sized h m = inl refl
+not_single T (Whole t) env sized h m = inl refl
 
-module _ (T : Tables) (stand : InPlace doc_number doc_arrival T.docs) (env : Env) (access : Access) (e : TextExpr) (asked : Option (List ℕ))
-    (is : asked ≡ text e env) where
-  sorted_under : (kind : TextKind) (docs : List Doc) → IsUnderText kind asked T docs → IsSorted docs
-  sorted_under kind docs u = record {
-    arrivals = subst (IsRisingBy doc_arrival) (sym u.docs_are) (listed_arrive (texts_of kind) u.some T.docs stand);
-    numbers = subst (IsRisingBy doc_rank) (sym u.docs_are) (listed_numbers (texts_of kind) u.some T.docs stand);
-  }
+module _ (T : Tables) (stand : InPlace doc_number doc_arrival T.docs) (env : Env) (access : Access) where
+  module _ (l : ListField) (e : TextExpr) (a : access ≡ ByEntry l e) (asked : Option (List ℕ)) (is : asked ≡ text e env) where
+    pub entry_list : (kind : TextKind) → kind ≡ list_kind l → (r : Option (List Doc))
+        → IfSome r (λ docs. IsUnderText kind asked T docs) → IfSome r (λ docs. IsListOf T access env docs)
+    entry_list kind k None h = tt
+    entry_list kind k (Some docs) u =
+        let own : docs ≡ with_text (texts_of (list_kind l)) u.some T.docs = u.docs_are
+        ∙ ap (λ z. with_text (texts_of z) u.some T.docs) k in
+        record {
+          list = ap is_list a;
+          sorted = sorted_if T stand (λ doc. list_any (λ other. bytes_eq u.some other) (texts_of (list_kind l) doc)) docs own;
+          rows = ap (λ z. all_rows_by z env T) a ∙ sym (entries_with T l (text e env) u.some (sym is ∙ u.is)) ∙ ap (map OfDoc) (sym own);
+        }
 
-  pub reference_list : access ≡ ByReference e → (r : Option (List Doc)) → IfSome r (λ docs. IsUnderText K.Reference asked T docs)
-      → IfSome r (λ docs. IsListOf T access env docs)
-  reference_list a None h = tt
-  reference_list a (Some docs) u = record {
-    list = ap is_list a;
-    sorted = sorted_under K.Reference docs u;
-    rows = ap (λ z. all_rows_by z env T) a ∙ sym (reference_found T.docs (text e env) u.some (sym is ∙ u.is))
-        ∙ ap (map OfDoc) (sym u.docs_are);
-  }
+    pub no_entry_list : asked ≡ None → (is_list access ≡ false) ⊎ (all_rows_by access env T ≡ [])
+    no_entry_list h = inr (ap (λ z. all_rows_by z env T) a ∙ sym (no_entry T l (text e env) (sym is ∙ h)))
 
-  pub word_list : access ≡ ByWord e → (r : Option (List Doc)) → IfSome r (λ docs. IsUnderText K.Word asked T docs)
-      → IfSome r (λ docs. IsListOf T access env docs)
-  word_list a None h = tt
-  word_list a (Some docs) u = record {
-    list = ap is_list a;
-    sorted = sorted_under K.Word docs u;
-    rows = ap (λ z. all_rows_by z env T) a ∙ sym (word_found T.docs (text e env) u.some (sym is ∙ u.is)) ∙ ap (map OfDoc) (sym u.docs_are);
-  }
-
-  pub none_referring : access ≡ ByReference e → asked ≡ None → (is_list access ≡ false) ⊎ (all_rows_by access env T ≡ [])
-  none_referring a h = inr (ap (λ z. all_rows_by z env T) a ∙ sym (no_reference T.docs (text e env) (sym is ∙ h)))
-
-  pub none_with_word : access ≡ ByWord e → asked ≡ None → (is_list access ≡ false) ⊎ (all_rows_by access env T ≡ [])
-  none_with_word a h = inr (ap (λ z. all_rows_by z env T) a ∙ sym (no_word T.docs (text e env) (sym is ∙ h)))
+-- the length of a list is that of its rows
+counts_all : (T : Tables) (env : Env) (n : ℕ) (a : Access) → is_list a ≡ true → n ≡ length (all_rows_by a env T) → n ≡ access_length T env a
+counts_all T env n (ByNumber Size e) h k = k
+counts_all T env n (ByNumber Id e) h k = absurd (false≢true h)
+counts_all T env n (ByNumber DocOf e) h k = k
+counts_all T env n (ByNumber Value e) h k = k
+counts_all T env n (ByText f e) h k = k
+counts_all T env n (ByEntry l e) h k = k
+counts_all T env n (ByEach w l f) h k = k
+counts_all T env n (Whole t) h k = absurd (false≢true h)
 
 -- a list is as long as it is
 pub list_counted : (T : Tables) (access : Access) (env : Env) (docs : List Doc) → IsListOf T access env docs
     → length docs ≡ access_length T env access
-list_counted T access env docs l = go access l.list (sym (mapped_length OfDoc docs) ∙ sym (ap length l.rows))
-  where
-    go : (a : Access) → is_list a ≡ true → length docs ≡ length (all_rows_by a env T) → length docs ≡ access_length T env a
-    go (ByMsgId e) h k = k
-    go (ByParent e) h k = k
-    go (BySender e) h k = k
-    go (BySubject e) h k = k
-    go (ByReference e) h k = k
-    go (ByWord e) h k = k
-    go (ById e) h k = absurd (false≢true h)
-    go (ReferencedBy v) h k = absurd (false≢true h)
-    go (NotesOf e) h k = absurd (false≢true h)
-    go AllDocs h k = absurd (false≢true h)
-    go AllNotes h k = absurd (false≢true h)
+list_counted T access env docs l = counts_all T env (length docs) access l.list (sym (mapped_length OfDoc docs) ∙ sym (ap length l.rows))
 
 -- an access that gives a list of none
 pub none_counted : (T : Tables) (access : Access) (env : Env) → is_list access ≡ true
     → (is_list access ≡ false) ⊎ (all_rows_by access env T ≡ []) → 0 ≡ access_length T env access
 none_counted T access env l (inl n) = absurd (false≢true (sym n ∙ l))
-none_counted T access env l (inr n) = go access l (sym (ap length n))
-  where
-    go : (a : Access) → is_list a ≡ true → 0 ≡ length (all_rows_by a env T) → 0 ≡ access_length T env a
-    go (ByMsgId e) h k = k
-    go (ByParent e) h k = k
-    go (BySender e) h k = k
-    go (BySubject e) h k = k
-    go (ByReference e) h k = k
-    go (ByWord e) h k = k
-    go (ById e) h k = absurd (false≢true h)
-    go (ReferencedBy v) h k = absurd (false≢true h)
-    go (NotesOf e) h k = absurd (false≢true h)
-    go AllDocs h k = absurd (false≢true h)
-    go AllNotes h k = absurd (false≢true h)
+none_counted T access env l (inr n) = counts_all T env 0 access l (sym (ap length n))
 
 pub filter_less : {A : Type 0} (p : A → Bool) (xs : List A) → length (filter p xs) ≤ length xs
 filter_less p [] = omega arith
@@ -168,39 +158,43 @@ filter_less p (x ∷ xs) = let k = filter_less p xs in elim (cases_Bool (p x)) [
   | inr e ↦ rw e (omega (arith, k))
 ]
 
-pub under_less : (texts : Doc → List (List ℕ)) (id : List ℕ) (docs : List Doc) → length (with_text texts id docs) ≤ length docs
-under_less texts id docs = filter_less _ docs
+-- the rows of which a field is one of some texts, one text after the other
+pub counted_each : (f : TextField) (T : Tables) (xs : List (List ℕ)) → count_each f T xs ≡ length (rows_with_each f T xs)
+counted_each f T [] = refl
+counted_each f T (x ∷ xs) =
+    let a : length (rows_with_each f T (x ∷ xs)) ≡ length (rows_with f T x) + length (rows_with_each f T xs) =
+    length-append (rows_with f T x) (rows_with_each f T xs) in
+    let k = counted_each f T xs in
+    omega (arith, a, k)
 
--- the documents of message ids, one id after the other
-pub counted_ids : (T : Tables) (ids : List (List ℕ)) → count_ids T ids ≡ length (flat_map (docs_of_id T) ids)
-counted_ids T [] = refl
-counted_ids T (id ∷ ids) =
-    let a : length (flat_map (docs_of_id T) (id ∷ ids)) ≡ length (docs_of_id T id) + length (flat_map (docs_of_id T) ids) =
-    length-append (docs_of_id T id) (flat_map (docs_of_id T) ids) in
-    let b : length (docs_of_id T id) ≡ length (with_text msgids id T.docs) = ap length (sym (msgid_picked T.docs id))
-    ∙ mapped_length OfDoc (with_text msgids id T.docs) in
-    let k = counted_ids T ids in
-    omega (arith, a, b, k)
+pub each_within : (f : TextField) (T : Tables) → length T.docs ≤ 4294967295 → length T.notes ≤ 4294967295 → (xs : List (List ℕ))
+    → count_each f T xs ≤ 4294967295 * length xs
+each_within f T h g [] = omega arith
+each_within f T h g (x ∷ xs) =
+    let l : length (rows_with f T x) ≤ length (rows_of (text_table f) T) =
+    filter_less (λ row. both_texts Eq (text_field f row) (Some x)) (rows_of (text_table f) T) in
+    let m = few (text_table f) in
+    let k = each_within f T h g xs in
+    omega (arith, l, m, k)
+  where
+    few : (t : Table) → length (rows_of t T) ≤ 4294967295
+    few Docs = subst (λ n. n ≤ 4294967295) (sym (mapped_length OfDoc T.docs)) h
+    few Notes = subst (λ n. n ≤ 4294967295) (sym (mapped_length OfNote T.notes)) g
 
-pub ids_within : (T : Tables) → length T.docs ≤ 4294967295 → (ids : List (List ℕ)) → count_ids T ids ≤ 4294967295 * length ids
-ids_within T h [] = omega arith
-ids_within T h (id ∷ ids) =
-    let l = under_less msgids id T.docs in
-    let k = ids_within T h ids in
-    omega (arith, l, h, k)
-
-pub counted_more : (T : Tables) (ids rest : List (List ℕ)) (id : List ℕ) (sum count all : ℕ) → all ≡ sum + count_ids T ids → ids ≡ id ∷ rest
-    → count ≡ length (with_text msgids id T.docs) → all ≡ sum + count + count_ids T rest
-counted_more T ids rest id sum count all w e n =
-    let k : all ≡ sum + (length (with_text msgids id T.docs) + count_ids T rest) = w ∙ ap (λ z. sum + count_ids T z) e in
+pub counted_more : (f : TextField) (T : Tables) (xs rest : List (List ℕ)) (x : List ℕ) (sum count all : ℕ) → all ≡ sum + count_each f T xs
+    → xs ≡ x ∷ rest → count ≡ length (rows_with f T x) → all ≡ sum + count + count_each f T rest
+counted_more f T xs rest x sum count all w e n =
+    let k : all ≡ sum + (length (rows_with f T x) + count_each f T rest) = w ∙ ap (λ z. sum + count_each f T z) e in
     omega (arith, k, n)
 
 pub from_zero : (n : ℕ) → n ≡ 0 + n
 from_zero n = omega arith
 
-pub notes_counted : (notes : List Note) (on : List Note) (p : Row → Bool) → map OfNote on ≡ filter p (map OfNote notes)
-    → length on ≡ length (filter p (map OfNote notes))
-notes_counted notes on p e = sym (mapped_length OfNote on) ∙ ap length e
+pub docs_counted : (docs : List Doc) (rows : List Row) → map OfDoc docs ≡ rows → length docs ≡ length rows
+docs_counted docs rows e = sym (mapped_length OfDoc docs) ∙ ap length e
+
+pub notes_counted : (notes : List Note) (rows : List Row) → map OfNote notes ≡ rows → length notes ≡ length rows
+notes_counted notes rows e = sym (mapped_length OfNote notes) ∙ ap length e
 
 -- the rows of an EXISTS by an access
 module _ (T : Tables) (a : Access) (v : Var) (env : Env) (guards : List Atom) where
@@ -227,13 +221,13 @@ module _ (T : Tables) (a : Access) (v : Var) (env : Env) (guards : List Atom) wh
 module _ (T : Tables) (v : Var) (t : Table) (x : Condition) (env : Env) (rows : List Row) where
   pub reached_by : (a : Access) → shortest T env (inner_accesses v t x) ≡ Some a
       → rows ≡ cut_rows a v env (guards_of x) (all_rows_by a env T) → rows ≡ reached T v t x env
-  reached_by a s r = r ∙ sym (ap (λ o. cut_rows (unwrap_or o (whole t)) v env (guards_of x) (all_rows_by (unwrap_or o (whole t)) env T)) s)
+  reached_by a s r = r ∙ sym (ap (λ o. cut_rows (unwrap_or o (Whole t)) v env (guards_of x) (all_rows_by (unwrap_or o (Whole t)) env T)) s)
 
-  pub reached_whole : shortest T env (inner_accesses v t x) ≡ None → rows ≡ all_rows_by (whole t) env T → rows ≡ reached T v t x env
+  pub reached_whole : shortest T env (inner_accesses v t x) ≡ None → rows ≡ all_rows_by (Whole t) env T → rows ≡ reached T v t x env
   reached_whole s r = r ∙ uncut t
-      ∙ sym (ap (λ o. cut_rows (unwrap_or o (whole t)) v env (guards_of x) (all_rows_by (unwrap_or o (whole t)) env T)) s)
+      ∙ sym (ap (λ o. cut_rows (unwrap_or o (Whole t)) v env (guards_of x) (all_rows_by (unwrap_or o (Whole t)) env T)) s)
     where
-      uncut : (u : Table) → all_rows_by (whole u) env T ≡ cut_rows (whole u) v env (guards_of x) (all_rows_by (whole u) env T)
+      uncut : (u : Table) → all_rows_by (Whole u) env T ≡ cut_rows (Whole u) v env (guards_of x) (all_rows_by (Whole u) env T)
       uncut Docs = refl
       uncut Notes = refl
 
@@ -256,6 +250,27 @@ module _ (T : Tables) (env : Env) where
       → found ≡ shorter_access T env best access → now ≡ shortest_after T env found rest
       → now ≡ shortest_after T env best accesses
   one_more best found now accesses rest access e f n = n ∙ ap (λ o. shortest_after T env o rest) f ∙ sym (ap (shortest_after T env best) e)
+
+  -- no other is shorter than one that reaches no row
+  pub none_shorter : (best : Access) (accesses : List Access) → access_length T env best ≡ 0
+      → Some best ≡ shortest_after T env (Some best) accesses
+  none_shorter best [] e = refl
+  none_shorter best (a ∷ accesses) e =
+      let n : nat_lt (access_length T env a) (access_length T env best) ≡ false = grind (arith, e) in
+      none_shorter best accesses e ∙ ap (λ b. shortest_after T env (if b then Some a else Some best) accesses) (sym n)
+
+  -- the shorter of two, by their lengths
+  pub is_shorter : (best access : Access) (m n : ℕ) → m ≡ access_length T env best → n ≡ access_length T env access
+      → n < m → Some access ≡ shorter_access T env (Some best) access
+  is_shorter best access m n e f h =
+      let l : nat_lt (access_length T env access) (access_length T env best) ≡ true = grind (arith, e, f, h) in
+      ap (λ b. if b then Some access else Some best) (sym l)
+
+  pub not_shorter : (best access : Access) (m n : ℕ) → m ≡ access_length T env best → n ≡ access_length T env access
+      → m ≤ n → Some best ≡ shorter_access T env (Some best) access
+  not_shorter best access m n e f h =
+      let l : nat_lt (access_length T env access) (access_length T env best) ≡ false = grind (arith, e, f, h) in
+      ap (λ b. if b then Some access else Some best) (sym l)
 
   module _ (known : ℕ → Bool) (v : Var) (t : Table) where
     pub none_by : (best : Option Access) (a : Atom) → None ≡ access_by known v t a

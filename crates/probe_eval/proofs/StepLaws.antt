@@ -17,8 +17,8 @@ use Rattle.access_plan.specs.declared.reach.Reach.{Reach}
 use Rattle.access_plan.specs.Accesses.{admits, table_of, accesses_by, is_held, is_held_or}
 use Rattle.access_plan.specs.Laws.{AreSame}
 use Rattle.access_plan.specs.Nearest.{IsNearest}
-use Rattle.access_plan.proofs.Admits.{guard_admits}
-use Rattle.access_plan.proofs.Enough.{IsGiven, is_given, guard_table, near_kinds_table}
+use Rattle.access_plan.proofs.Admits.{guard_admits, guard_table}
+use Rattle.access_plan.proofs.Enough.{IsGiven, is_given}
 use Rattle.access_plan.proofs.Nearests.{nearest_admits, nearest_keeps_table}
 use Rattle.probe_eval.specs.Cuts.{is_cut}
 use Rattle.probe_eval.specs.Open.{atom_known}
@@ -55,8 +55,7 @@ module _ (T : Tables) (path : List Step) (env : Env) (r : Reach) where
       go None e = refl
       go (Some a) e =
           let s = of_step path env r.var r.table a (found_in (is_least T env own) own a e) in
-          guard_table (is_held env) r.var s.given.kind s.given.guard a s.given.gives ∙ near_kinds_table r.table s.given.kind s.given.is_kind
-          ∙ sym (nearest_keeps_table path env r k)
+          guard_table (is_held env) r.var r.table s.given.guard a s.given.gives ∙ sym (nearest_keeps_table path env r k)
 
   -- it admits a row with which all guards are true in the end
   pub step_admits : (final : Env) (row : Row) → IsNearest path env r → AreSame (is_held env) env final → lookup r.var.0 final ≡ Some row
@@ -68,8 +67,8 @@ module _ (T : Tables) (path : List Step) (env : Env) (r : Reach) where
       go None e = nearest_admits path env final r row k same here guards
       go (Some a) e =
           let s = of_step path env r.var r.table a (found_in (is_least T env own) own a e) in
-          guard_admits (is_held env) r.var env final row same here s.given.kind s.given.guard a
-          s.given.gives (guards s.step s.is_step s.given.guard s.given.is_guard)
+          guard_admits (is_held env) r.var r.table env final row same here s.given.guard a s.given.gives
+          (guards s.step s.is_step s.given.guard s.given.is_guard)
 
 -- the rows that pass are rows of the access
 module _ (T : Tables) (a : Access) (v : Var) (b : ℤ) (env : Env) (path : List Step) where

@@ -8,8 +8,7 @@ use Rattle.tql_core.specs.Row.{Row, OfDoc}
 use Rattle.tql_core.specs.Values.{Env}
 use Rattle.time_marks.specs.declared.mark.Step.{Step}
 use Rattle.access_plan.specs.declared.access.Access.{Access}
-use Rattle.access_plan.specs.declared.access.Access.TheVariants.{ById, ByMsgId, ByParent, BySender, BySubject}
-use Rattle.access_plan.specs.declared.access.Access.TheVariants.{ReferencedBy, ByReference, ByWord, NotesOf, AllDocs, AllNotes}
+use Rattle.access_plan.specs.declared.access.Access.TheVariants.{ByNumber, ByText, ByEntry, ByEach, Whole}
 use Rattle.probe_eval.specs.Shortest.{IsListOf}
 use Rattle.probe_eval.specs.StepRows.{passes_step, step_rows}
 use Rattle.probe_eval.specs.Work.{rows_by, all_rows_by, is_list}
@@ -22,32 +21,20 @@ no_rows T a b env l (inl n) = absurd (false≢true (sym n ∙ l))
 no_rows T a b env l (inr n) = go a l (sym n)
   where
     go : (a : Access) → is_list a ≡ true → [] ≡ all_rows_by a env T → [] ≡ rows_by b a env T
-    go (ByMsgId e) h k = k
-    go (ByParent e) h k = k
-    go (BySender e) h k = k
-    go (BySubject e) h k = k
-    go (ByReference e) h k = k
-    go (ByWord e) h k = k
-    go (ById e) h k = absurd (false≢true h)
-    go (ReferencedBy w) h k = absurd (false≢true h)
-    go (NotesOf e) h k = absurd (false≢true h)
-    go AllDocs h k = absurd (false≢true h)
-    go AllNotes h k = absurd (false≢true h)
+    go (ByNumber f e) h k = k
+    go (ByText f e) h k = k
+    go (ByEntry l e) h k = k
+    go (ByEach w l f) h k = k
+    go (Whole t) h k = absurd (false≢true h)
 
 module _ (T : Tables) (a : Access) (v : Var) (b : ℤ) (env : Env) (path : List Step) where
   -- the rows of a posting list are those that have come by any second
   list_rows : (a : Access) → is_list a ≡ true → rows_by b a env T ≡ all_rows_by a env T
-  list_rows (ByMsgId e) l = refl
-  list_rows (ByParent e) l = refl
-  list_rows (BySender e) l = refl
-  list_rows (BySubject e) l = refl
-  list_rows (ByReference e) l = refl
-  list_rows (ByWord e) l = refl
-  list_rows (ById e) l = refl
-  list_rows (ReferencedBy w) l = refl
-  list_rows (NotesOf e) l = refl
-  list_rows AllDocs l = absurd (false≢true l)
-  list_rows AllNotes l = absurd (false≢true l)
+  list_rows (ByNumber f e) l = refl
+  list_rows (ByText f e) l = refl
+  list_rows (ByEntry m e) l = refl
+  list_rows (ByEach w m f) l = refl
+  list_rows (Whole t) l = absurd (false≢true l)
 
   abbrev step_if : Bool → List Row
   step_if c = if c then filter (passes_step v b env path) (all_rows_by a env T) else rows_by b a env T

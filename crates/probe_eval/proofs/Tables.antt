@@ -9,8 +9,7 @@ use Rattle.time_marks.specs.declared.mark.Step.{Step}
 use Rattle.time_marks.specs.Found.{vars_of, Distinct}
 use Rattle.time_marks.proofs.Lists.{in_map}
 use Rattle.access_plan.specs.declared.access.Access.{Access}
-use Rattle.access_plan.specs.declared.access.Access.TheVariants.{ById, ByMsgId, ByParent, BySender, BySubject, ReferencedBy, ByReference}
-use Rattle.access_plan.specs.declared.access.Access.TheVariants.{ByWord, NotesOf, AllDocs, AllNotes}
+use Rattle.access_plan.specs.declared.access.Access.TheVariants.{ByNumber, ByText, ByEntry, ByEach, Whole}
 use Rattle.access_plan.specs.Accesses.{admits}
 use Rattle.probe_eval.specs.Tables.{table_in}
 use Rattle.probe_eval.specs.Work.{admits_by}
@@ -36,14 +35,8 @@ table_is (x ∷ xs) step u (inr i) = go (cases_eq x.var.0 step.var.0) (table_is 
 
 pub by_both : (b : ℤ) (a : Access) (env : Env) (row : Row) → admits a env row ≡ true → int_le (arrival row) b ≡ true
     → admits_by b a env row ≡ true
-by_both b AllDocs env row h k = k
-by_both b AllNotes env row h k = k
-by_both b (ById e) env row h k = h
-by_both b (ByMsgId e) env row h k = h
-by_both b (ByParent e) env row h k = h
-by_both b (BySender e) env row h k = h
-by_both b (BySubject e) env row h k = h
-by_both b (ReferencedBy w) env row h k = h
-by_both b (ByReference e) env row h k = h
-by_both b (ByWord e) env row h k = h
-by_both b (NotesOf e) env row h k = h
+by_both b (Whole t) env row h k = k
+by_both b (ByNumber f e) env row h k = h
+by_both b (ByText f e) env row h k = h
+by_both b (ByEntry l e) env row h k = h
+by_both b (ByEach w l f) env row h k = h

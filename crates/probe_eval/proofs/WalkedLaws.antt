@@ -26,7 +26,8 @@ use Rattle.time_marks.specs.Probes.{Probe, come_by}
 use Rattle.time_marks.proofs.Lists.{all_in}
 use Rattle.access_plan.specs.declared.reach.Reach.{Reach}
 use Rattle.probe_eval.specs.Drivers.{driving, walked, mark_in, marked_hits, hits_at}
-use Rattle.probe_eval.specs.Literals.{field_kind, list_field_kind, literal_kind, chosen, rows_where}
+use Rattle.probe_eval.specs.Kinds.{field_kind, of_docs, list_kind}
+use Rattle.probe_eval.specs.Literals.{literal_kind, chosen, rows_where}
 use Rattle.probe_eval.specs.Nested.{hit_if, new_doc, over_rows, holds_here, asked_or, hits_over}
 use Rattle.probe_eval.specs.Open.{atom_held, may_hold, are_open, path_open, may_go}
 use Rattle.probe_eval.specs.Rests.{further}
@@ -39,9 +40,9 @@ use Rattle.probe_eval.proofs.RestSteps.{stopped}
 
 -- a guard by a literal can be evaluated once its variable has a row
 held_of : (v : Var) (a : Atom) (kind : TextKind) (row : Row) → literal_kind v a ≡ Some kind → atom_held (bind v row []) a ≡ true
-held_of v (Texts (Field u f) Eq (Literal t)) kind row h = let k = kind_parts v u (field_kind f) kind h in rw k.0 refl
-held_of v (Texts (Literal t) Eq (Field u f)) kind row h = let k = kind_parts v u (field_kind f) kind h in rw k.0 refl
-held_of v (Has u f (Literal t)) kind row h = let k = kind_parts v u (list_field_kind f) kind h in rw k.0 refl
+held_of v (Texts (Field u f) Eq (Literal t)) kind row h = let k = kind_parts v u (of_docs (field_kind f)) kind h in rw k.0 refl
+held_of v (Texts (Literal t) Eq (Field u f)) kind row h = let k = kind_parts v u (of_docs (field_kind f)) kind h in rw k.0 refl
+held_of v (Has u f (Literal t)) kind row h = let k = kind_parts v u (Some (list_kind f)) kind h in rw k.0 refl
 held_of v _ kind row h = absurd (none-some kind h)
 
 some_kind : {A : Type 0} (o : Option A) → is_some o ≡ true → (x : A) × (o ≡ Some x)

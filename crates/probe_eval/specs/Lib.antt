@@ -1,3 +1,4 @@
+pub mod Kinds
 pub mod RowWalks
 pub mod Conjuncts
 pub mod Open

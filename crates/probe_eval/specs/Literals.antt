@@ -5,34 +5,17 @@ use Rattle.tap_rows.specs.declared.tables.Tables.{Tables}
 use Rattle.tql_tree.specs.declared.table.Table.{Table}
 use Rattle.tql_tree.specs.declared.table.Table.TheVariants.{Docs}
 use Rattle.tql_core.specs.declared.term.Var.{Var}
-use Rattle.tql_core.specs.declared.atom.TextField.{TextField}
-use Rattle.tql_core.specs.declared.atom.TextField.TheVariants.{From, Subject, MsgId, InReplyTo}
-use Rattle.tql_core.specs.declared.atom.ListField.{ListField}
-use Rattle.tql_core.specs.declared.atom.ListField.TheVariants.{References, Words}
 use Rattle.tql_core.specs.declared.atom.TextExpr.TheVariants.{Literal, Field}
 use Rattle.tql_core.specs.declared.atom.Atom.{Atom}
 use Rattle.tql_core.specs.declared.atom.Atom.TheVariants.{Texts, Has}
 use Rattle.tql_core.specs.Row.{Row}
 use Rattle.tql_core.specs.Values.{bind, true_atom}
 use Rattle.row_index.specs.declared.text_kind.TextKind.{TextKind}
-use Rattle.row_index.specs.declared.text_kind.TextKind.TheVariants as K
 use Rattle.row_index.specs.Texts.{texts_of, with_text}
 use Rattle.time_marks.specs.declared.mark.Step.{Step}
 use Rattle.time_marks.specs.declared.seek.Seek.{Seek}
 use Rattle.time_marks.specs.declared.seek.Seek.TheVariants.{Arrived, ArrivedDay}
-
--- the kind of text by which the index finds documents of a field
-abbrev pub field_kind : TextField → Option TextKind
-field_kind From = Some K.Sender
-field_kind Subject = Some K.Subject
-field_kind MsgId = Some K.MsgId
-field_kind InReplyTo = Some K.Parent
-field_kind _ = None
-
-abbrev pub list_field_kind : ListField → Option TextKind
-list_field_kind References = Some K.Reference
-list_field_kind Words = Some K.Word
-list_field_kind _ = None
+use Rattle.probe_eval.specs.Kinds.{field_kind, of_docs, list_kind}
 
 -- the kind, if the field is one of the variable
 abbrev pub kind_if : Var → Var → Option TextKind → Option TextKind
@@ -40,9 +23,9 @@ kind_if v u kind = if nat_eq u.0 v.0 then kind else None
 
 -- the kind of text that a guard asks of the variable's document by a literal, if the index finds documents by it
 abbrev pub literal_kind : Var → Atom → Option TextKind
-literal_kind v (Texts (Field u f) Eq (Literal t)) = kind_if v u (field_kind f)
-literal_kind v (Texts (Literal t) Eq (Field u f)) = kind_if v u (field_kind f)
-literal_kind v (Has u f (Literal t)) = kind_if v u (list_field_kind f)
+literal_kind v (Texts (Field u f) Eq (Literal t)) = kind_if v u (of_docs (field_kind f))
+literal_kind v (Texts (Literal t) Eq (Field u f)) = kind_if v u (of_docs (field_kind f))
+literal_kind v (Has u f (Literal t)) = kind_if v u (Some (list_kind f))
 literal_kind v _ = None
 
 -- the literal of such a guard

@@ -1,53 +1,66 @@
 -- The rows that the conditions of a body look at, and how many steps that may take.
-use Rattle.std.specs.Prelude.{ℕ, ◌+◌, ℤ, pos, Bool, true, false, Option, Some, List, [], ◌∷◌, length, filter, unwrap_or, int_le, nat_le}
-use Rattle.std.specs.Prelude.{if◌then◌else◌}
+use Rattle.std.specs.Prelude.{ℕ, ◌+◌, ℤ, pos, Bool, true, false, Option, Some, is_some, List, [], ◌∷◌, length, filter}
+use Rattle.std.specs.Prelude.{unwrap_or, int_le, nat_le, if◌then◌else◌}
 use Rattle.std.specs.List.{find, flat_map, list_all}
 use Rattle.tap_base.specs.declared.numbers.Op.TheVariants.{Eq}
 use Rattle.tap_rows.specs.declared.tables.Tables.{Tables}
 use Rattle.tql_tree.specs.declared.table.Table.{Table}
-use Rattle.tql_tree.specs.declared.table.Table.TheVariants.{Docs}
 use Rattle.tql_core.specs.declared.term.Var.{Var}
-use Rattle.tql_core.specs.declared.atom.TextField.TheVariants.{MsgId}
-use Rattle.tql_core.specs.declared.atom.ListField.TheVariants.{References}
+use Rattle.tql_tree.specs.declared.table.Table.TheVariants.{Docs}
+use Rattle.tql_core.specs.declared.atom.NumField.{NumField}
+use Rattle.tql_core.specs.declared.atom.NumField.TheVariants.{Id, Size}
+use Rattle.tql_core.specs.declared.atom.TextField.{TextField}
+use Rattle.tql_core.specs.declared.atom.ListField.{ListField}
 use Rattle.tql_core.specs.declared.atom.Atom.{Atom}
 use Rattle.tql_core.specs.Condition.{Condition, Always, Never, Plain, NowAtLeast, NowBefore, All, Either, Not, Exists}
 use Rattle.tql_core.specs.Holds.{truth}
 use Rattle.tql_core.specs.Row.{Row, arrival, rows_of}
-use Rattle.tql_core.specs.Values.{Env, bind, lookup, on_row, text_field, list_field, both_texts}
+use Rattle.tql_core.specs.Values.{Env, bind, lookup, on_row, field, text_field, list_field, both, both_texts, has}
 use Rattle.time_marks.specs.Marks.{guards_of}
 use Rattle.access_plan.specs.declared.access.Access.{Access}
-use Rattle.access_plan.specs.declared.access.Access.TheVariants.{ById, ByMsgId, ByParent, BySender, BySubject}
-use Rattle.access_plan.specs.declared.access.Access.TheVariants.{ReferencedBy, ByReference, ByWord, AllDocs, AllNotes}
-use Rattle.access_plan.specs.Accesses.{table_of, admits, inner_accesses, whole}
+use Rattle.access_plan.specs.declared.access.Access.TheVariants.{ByNumber, ByText, ByEntry, ByEach, Whole}
+use Rattle.access_plan.specs.Accesses.{walked_list, table_of, number_table, text_table, admits, inner_accesses}
 use Rattle.probe_eval.specs.Cuts.{passes_cuts}
+use Rattle.probe_eval.specs.Kinds.{field_kind, of_docs}
 
 -- the rows that an access reaches, of a whole table those that have come by a second
 abbrev pub admits_by : ℤ → Access → Env → Row → Bool
-admits_by last AllDocs env row = int_le (arrival row) last
-admits_by last AllNotes env row = int_le (arrival row) last
+admits_by last (Whole t) env row = int_le (arrival row) last
 admits_by last access env row = admits access env row
 
--- the references of a variable's row: none if it has no row, or that of a note
-abbrev pub references_of : Var → Env → List (List ℕ)
-references_of v env = unwrap_or (on_row (lookup v.0 env) (list_field References)) []
+-- the texts in a list of a variable's row that are looked up: none if it has no row, or that of a note
+abbrev pub listed_texts : Var → ListField → Env → List (List ℕ)
+listed_texts w l env = unwrap_or (on_row (lookup w.0 env) (walked_list l)) []
 
--- the documents of a message id
-abbrev pub docs_of_id : Tables → List ℕ → List Row
-docs_of_id T id = filter (λ row. both_texts Eq (text_field MsgId row) (Some id)) (rows_of Docs T)
+-- the rows of which a field is a number that may be absent
+abbrev pub rows_of_number : NumField → Tables → Option ℤ → List Row
+rows_of_number f T n = filter (λ row. both Eq (field f row) n) (rows_of (number_table f) T)
 
--- the documents that a variable's row refers to: those of each of its references, one after the other
-abbrev pub referenced : Var → Env → Tables → List Row
-referenced v env T = flat_map (docs_of_id T) (references_of v env)
+-- the rows of which a field is a text that may be absent
+abbrev pub rows_of_text : TextField → Tables → Option (List ℕ) → List Row
+rows_of_text f T x = filter (λ row. both_texts Eq (text_field f row) x) (rows_of (text_table f) T)
 
--- the rows that an access reaches beside bound rows; of a whole table those that have come by a second; those that a row refers
--- to come reference by reference, a repeated one again
+-- the documents that have a text, which may be absent, in a list
+abbrev pub rows_of_entry : ListField → Tables → Option (List ℕ) → List Row
+rows_of_entry l T x = filter (λ row. has (list_field l row) x) (rows_of Docs T)
+
+-- the rows of which a field is a text
+abbrev pub rows_with : TextField → Tables → List ℕ → List Row
+rows_with f T x = rows_of_text f T (Some x)
+
+-- those of each of some texts, one after the other
+abbrev pub rows_with_each : TextField → Tables → List (List ℕ) → List Row
+rows_with_each f T xs = flat_map (rows_with f T) xs
+
+-- the rows that an access reaches beside bound rows; of a whole table those that have come by a second; those by the texts in a list
+-- come text by text, those of a repeated one again
 abbrev pub rows_by : ℤ → Access → Env → Tables → List Row
-rows_by last (ReferencedBy v) env T = referenced v env T
+rows_by last (ByEach w l f) env T = rows_with_each f T (listed_texts w l env)
 rows_by last access env T = filter (admits_by last access env) (rows_of (table_of access) T)
 
 -- the same once all rows have come
 abbrev pub all_rows_by : Access → Env → Tables → List Row
-all_rows_by (ReferencedBy v) env T = referenced v env T
+all_rows_by (ByEach w l f) env T = rows_with_each f T (listed_texts w l env)
 all_rows_by access env T = filter (admits access env) (rows_of (table_of access) T)
 
 -- the sum of f over a list
@@ -62,20 +75,16 @@ until f (x ∷ xs) = x ∷ (if f x then [] else until f xs)
 
 -- does the access give a posting list of documents? It is in order of arrival and of number
 abbrev pub is_list : Access → Bool
-is_list (ByMsgId e) = true
-is_list (ByParent e) = true
-is_list (BySender e) = true
-is_list (BySubject e) = true
-is_list (ByReference e) = true
-is_list (ByWord e) = true
+is_list (ByNumber Size e) = true
+is_list (ByText f e) = is_some (of_docs (field_kind f))
+is_list (ByEntry l e) = true
 is_list _ = false
 
 module _ (T : Tables) (env : Env) where
-  -- how many rows an access reaches: by a number one, as far as is known without a look at it, else those of its list
+  -- how many rows an access reaches: by a document's number one, as far as is known without a look at it, else those of its list
   abbrev pub access_length : Access → ℕ
-  access_length (ById e) = 1
-  access_length AllDocs = length T.docs
-  access_length AllNotes = length T.notes
+  access_length (ByNumber Id e) = 1
+  access_length (Whole t) = length (rows_of t T)
   access_length access = length (all_rows_by access env T)
 
   -- is none of these shorter?
@@ -88,7 +97,7 @@ module _ (T : Tables) (env : Env) where
 
 -- the access to the rows of an EXISTS: the shortest that a guard gives, else all rows of the table
 abbrev pub inner_access : Tables → Var → Table → Condition → Env → Access
-inner_access T v t x env = unwrap_or (shortest T env (inner_accesses v t x)) (whole t)
+inner_access T v t x env = unwrap_or (shortest T env (inner_accesses v t x)) (Whole t)
 
 -- of the rows of a posting list those with which each guard is true that cuts the list; of other accesses all
 abbrev pub cut_rows : Access → Var → Env → List Atom → List Row → List Row

@@ -29,7 +29,8 @@ fn one_and<'a>(access: AccessRef<'a>, more: Given<'a>) -> Given<'a>
 {
     match more {
         Given::None => Given::One(access),
-        _ => Given::Several,
+        Given::One(_other) => Given::Several,
+        Given::Several => Given::Several,
     }
 }
 
@@ -84,7 +85,7 @@ fn given_on<'a>(path: &'a [Step], var: Var, table: Table, env: &Env) -> Given<'a
 }
 
 /// Returns the access by which the rows of the reach are walked beside rows of the same variables,
-/// whichever they are, if guards of the path give no other one.
+/// whichever they are. `None` comes if and only if guards of the path give several.
 pub(crate) fn sole_access<'a>(
     path: &'a [Step],
     reach: ReachRef<'a>,

@@ -13,7 +13,7 @@ use crate::access_rows::all_rows_by;
 use crate::cuts::left_docs;
 use crate::lists::{shortest, text_list};
 use crate::row_walk::RowWalk;
-use access_plan::{AccessRef, whole};
+use access_plan::AccessRef;
 use node_pool::NodeId;
 use tql_core::{Env, Var};
 use tql_tree::Table;
@@ -57,7 +57,7 @@ pub(crate) fn rows_left<'a>(
 {
     let accesses = search.plan.inner_accesses(body, inner, var, table);
     match shortest(accesses, env, search.index) {
-        None => all_rows_by(whole(table), env, search.index),
+        None => all_rows_by(AccessRef::Whole(table), env, search.index),
         Some(access) => cut_list(search, inner, var, access, env),
     }
 }

@@ -1,23 +1,24 @@
 //! The lists that accesses give, and the shortest of them.
 
-ghost use Rattle.std.specs.Prelude.{◌≡◌, ◌⊎◌, [], filter, map, length, false, None, Some, IfSome};
+ghost use Rattle.std.specs.Prelude.{◌≡◌, ◌⊎◌, [], length, false, None, Some, IfSome};
 ghost use Rattle.std.specs.Prelude.{option_copied};
-ghost use Rattle.tap_base.specs.declared.numbers.Op.TheVariants.{Eq};
-ghost use Rattle.tql_core.specs.declared.atom.NumField.TheVariants.{DocOf};
-ghost use Rattle.tql_core.specs.Values.{field, both};
-ghost use Rattle.tql_core.specs.Row.{OfNote};
+ghost use Rattle.tql_core.specs.declared.atom.NumField.TheVariants.{DocOf, Value};
+ghost use Rattle.tql_core.specs.Row.{rows_of};
 ghost use Rattle.access_plan.specs.Views.{access_at, option_access};
-ghost use Rattle.probe_eval.specs.Shortest.{IsUnderText, IsListOf, count_ids, shorter_access};
-ghost use Rattle.probe_eval.specs.Shortest.{shortest_after};
-ghost use Rattle.probe_eval.specs.SingleLists.{single_text};
-ghost use Rattle.probe_eval.specs.Work.{is_list, all_rows_by, access_length, shortest};
+ghost use Rattle.probe_eval.specs.Shortest.{IsUnderText, IsListOf, count_each};
+ghost use Rattle.probe_eval.specs.Shortest.{shorter_access, shortest_after};
+ghost use Rattle.probe_eval.specs.SingleLists.{single_key};
+ghost use Rattle.probe_eval.specs.Work.{is_list, rows_of_number, rows_of_text, rows_with};
+ghost use Rattle.probe_eval.specs.Work.{all_rows_by, access_length, shortest};
 
-use crate::access_rows::{references_of, short};
+use crate::access_rows::{listed_texts, short, signed};
+use crate::kinds::{FieldKind, field_kind, list_kind, of_docs};
 use crate::single_lists::single_list;
 use access_plan::{Access, AccessRef};
 use row_index::{PostingList, RowIndex, TextKind};
 use tap_base::{DocNum, Text};
-use tql_core::{Env, number, text};
+use tql_core::{Env, NumField, TextField, number, text};
+use tql_tree::Table;
 
 // Returns the documents under the text, if there is one.
 fn docs_under<'a>(
@@ -43,15 +44,15 @@ pub(crate) fn many_list<'a>(
 ) -> Option<PostingList<'a>>
     ensures some { IfSome result (λ docs.
         IsListOf index.now (access_at access.entry) env.now docs) }
-    ensures none { result ≡ None → single_text (access_at access.entry) env.now ≡ None
+    ensures none { result ≡ None → single_key (access_at access.entry) env.now ≡ None
         → (is_list (access_at access.entry) ≡ false)
         ⊎ (all_rows_by (access_at access.entry) env.now index.now ≡ []) }
 {
-    // Brings into scope that the documents arrived in order of their numbers.
+    // Brings into scope that the documents arrived in order of their numbers, and that sizes have
+    // 32 bits.
     let _docs = index.docs();
     match access {
-        AccessRef::ByReference(e) => docs_under(TextKind::Reference, text(e, env), index),
-        AccessRef::ByWord(e) => docs_under(TextKind::Word, text(e, env), index),
+        AccessRef::ByEntry(list, e) => docs_under(list_kind(list), text(e, env), index),
         _ => None,
     }
 }
@@ -61,17 +62,10 @@ pub(crate) fn is_list(access: AccessRef) -> bool
     ensures { result ≡ is_list (access_at access.entry) }
 {
     match access {
-        AccessRef::ByMsgId(_) => true,
-        AccessRef::ByParent(_) => true,
-        AccessRef::BySender(_) => true,
-        AccessRef::BySubject(_) => true,
-        AccessRef::ByReference(_) => true,
-        AccessRef::ByWord(_) => true,
-        AccessRef::ById(_) => false,
-        AccessRef::ReferencedBy(_) => false,
-        AccessRef::NotesOf(_) => false,
-        AccessRef::AllDocs => false,
-        AccessRef::AllNotes => false,
+        AccessRef::ByNumber(NumField::Size, _) => true,
+        AccessRef::ByText(field, _) => of_docs(field_kind(field)).is_some(),
+        AccessRef::ByEntry(_, _) => true,
+        _ => false,
     }
 }
 
@@ -94,31 +88,73 @@ pub(crate) fn text_list<'a>(
     }
 }
 
-// Returns how many documents have one of these message ids; those of one that stands twice count
-// twice.
-fn count_referenced(ids: &[Text], index: &RowIndex) -> u128
-    ensures { result ≡ count_ids index.now ids.now }
+// Returns how many rows have the text as a field.
+fn count_with(field: TextField, text: &[u8], index: &RowIndex) -> usize
+    ensures { result ≡ length (rows_with field index.now text.now) }
 {
-    // Brings into scope that a number of 32 bits counts the documents.
+    match field_kind(field) {
+        FieldKind::OfDocs(kind) => index.by_text(kind, text).len(),
+        FieldKind::OfNotes(kind) => index.count_by(kind, text),
+    }
+}
+
+// Returns how many rows have one of these texts as a field; those of one that stands twice count
+// twice.
+fn count_each(field: TextField, texts: &[Text], index: &RowIndex) -> u128
+    ensures { result ≡ count_each field index.now texts.now }
+{
+    // Brings into scope that a number of 32 bits counts the rows.
     let _docs = index.docs();
-    let _count = ids.len();
+    let _notes = index.notes();
+    let _count = texts.len();
     let mut sum: u128 = 0;
-    for id in ids {
-        sum += index.by_text(TextKind::MsgId, id.as_slice()).len() as u128;
+    for text in texts {
+        sum += count_with(field, text.as_slice(), index) as u128;
     }
     sum
 }
 
+// Returns how many rows have the text as a field, if there is one.
+fn count_text(field: TextField, text: Option<&[u8]>, index: &RowIndex) -> u128
+    ensures { result ≡ length (rows_of_text field index.now (option_copied text.entry)) }
+{
+    match text {
+        None => 0,
+        Some(text) => count_with(field, text, index) as u128,
+    }
+}
+
 // Returns how many notes are on the document of this number.
 fn count_notes(num: Option<i128>, index: &RowIndex) -> u128
-    ensures { result
-        ≡ length (filter (λ row. both Eq (field DocOf row) num) (map OfNote index.now.notes)) }
+    ensures { result ≡ length (rows_of_number DocOf index.now num) }
 {
     // Brings into scope that the numbers of noted documents have 32 bits.
     let _notes = index.notes();
     match short(num) {
         None => 0,
         Some(num) => index.count_on(DocNum(num)) as u128,
+    }
+}
+
+// Returns how many notes have this value.
+fn count_valued(num: Option<i128>, index: &RowIndex) -> u128
+    ensures { result ≡ length (rows_of_number Value index.now num) }
+{
+    // Brings into scope that values have 64 bits.
+    let _notes = index.notes();
+    match signed(num) {
+        None => 0,
+        Some(value) => index.count_valued(value) as u128,
+    }
+}
+
+// Returns how many rows a table has.
+fn count_rows(table: Table, index: &RowIndex) -> u128
+    ensures { result ≡ length (rows_of table index.now) }
+{
+    match table {
+        Table::Docs => index.docs() as u128,
+        Table::Notes => index.notes() as u128,
     }
 }
 
@@ -129,11 +165,14 @@ fn other_length<'a>(access: AccessRef<'a>, env: &Env<'a>, index: &'a RowIndex) -
     ensures { result ≡ access_length index.now env.now (access_at access.entry) }
 {
     match access {
-        AccessRef::ById(_) => 1,
-        AccessRef::ReferencedBy(var) => count_referenced(references_of(var, env), index),
-        AccessRef::NotesOf(e) => count_notes(number(e, env), index),
-        AccessRef::AllDocs => index.docs() as u128,
-        AccessRef::AllNotes => index.notes() as u128,
+        AccessRef::ByNumber(NumField::Id, _) => 1,
+        AccessRef::ByNumber(NumField::DocOf, e) => count_notes(number(e, env), index),
+        AccessRef::ByNumber(NumField::Value, e) => count_valued(number(e, env), index),
+        AccessRef::ByText(field, e) => count_text(field, text(e, env), index),
+        AccessRef::ByEach(var, list, field) => {
+            count_each(field, listed_texts(var, list, env), index)
+        }
+        AccessRef::Whole(table) => count_rows(table, index),
         _ => 0,
     }
 }
@@ -170,21 +209,31 @@ pub(crate) fn shorter_access<'a>(
     }
 }
 
-// Returns the shortest of some accesses and one before them, of equal ones the first.
+// Returns the shortest of an access, which reaches `len` rows, and those behind it, of equal ones
+// the first. If it reaches none, no other list is looked up.
 fn shortest_after<'a>(
-    best: Option<AccessRef<'a>>,
+    best: AccessRef<'a>,
+    len: u128,
     accesses: &'a [Access],
     env: &Env<'a>,
     index: &'a RowIndex,
-) -> Option<AccessRef<'a>>
-    ensures { option_access result
-        ≡ shortest_after index.now env.now (option_access best.entry) accesses.now }
+) -> AccessRef<'a>
+    requires { len ≡ access_length index.now env.now (access_at best) }
+    ensures { Some (access_at result)
+        ≡ shortest_after index.now env.now (Some (access_at best.entry)) accesses.now }
 {
+    if len == 0 {
+        return best;
+    }
     match accesses.split_first() {
         None => best,
         Some((access, rest)) => {
-            let found = shorter_access(best, access.as_ref(), env, index);
-            shortest_after(found, rest, env, index)
+            let other = length_of(access.as_ref(), env, index);
+            if other < len {
+                shortest_after(access.as_ref(), other, rest, env, index)
+            } else {
+                shortest_after(best, len, rest, env, index)
+            }
         }
     }
 }
@@ -195,13 +244,13 @@ fn shortest_beside<'a>(
     rest: &'a [Access],
     env: &Env<'a>,
     index: &'a RowIndex,
-) -> Option<AccessRef<'a>>
-    ensures { option_access result
+) -> AccessRef<'a>
+    ensures { Some (access_at result)
         ≡ shortest_after index.now env.now (Some (access_at first.entry)) rest.now }
 {
     match rest.split_first() {
-        None => Some(first),
-        Some(_) => shortest_after(Some(first), rest, env, index),
+        None => first,
+        Some(_) => shortest_after(first, length_of(first, env, index), rest, env, index),
     }
 }
 
@@ -217,6 +266,6 @@ pub(crate) fn shortest<'a>(
 {
     match accesses.split_first() {
         None => None,
-        Some((access, rest)) => shortest_beside(access.as_ref(), rest, env, index),
+        Some((access, rest)) => Some(shortest_beside(access.as_ref(), rest, env, index)),
     }
 }

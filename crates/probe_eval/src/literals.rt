@@ -7,40 +7,16 @@ ghost use Rattle.tql_core.specs.Row.{OfDoc};
 ghost use Rattle.tql_core.specs.Values.{bind, true_atom};
 ghost use Rattle.row_index.specs.Orders.{in_window, doc_arrival};
 ghost use Rattle.row_index.specs.Texts.{texts_of, with_text};
-ghost use Rattle.probe_eval.specs.Literals.{field_kind, list_field_kind, kind_if, literal_kind};
-ghost use Rattle.probe_eval.specs.Literals.{literal_of};
+ghost use Rattle.probe_eval.specs.Literals.{kind_if, literal_kind, literal_of};
 ghost use Rattle.probe_eval.specs.Literals.{list_length, shorter, rarer, rarest, chosen};
 
+use crate::kinds::{field_kind, list_kind, of_docs};
 use crate::row_walk::RowWalk;
 use row_index::{RowIndex, TextKind};
 use tap_base::Op;
 use time_marks::{Seek, Step, Window};
-use tql_core::{Atom, ListField, TextExpr, TextField, Var};
+use tql_core::{Atom, TextExpr, Var};
 use tql_tree::Table;
-
-// Returns the kind of text by which the index finds documents of a field.
-fn field_kind(field: TextField) -> Option<TextKind>
-    ensures { result ≡ field_kind field }
-{
-    match field {
-        TextField::From => Some(TextKind::Sender),
-        TextField::Subject => Some(TextKind::Subject),
-        TextField::MsgId => Some(TextKind::MsgId),
-        TextField::InReplyTo => Some(TextKind::Parent),
-        _ => None,
-    }
-}
-
-// Returns the kind of text by which the index finds documents of a field that is a list.
-fn list_field_kind(field: ListField) -> Option<TextKind>
-    ensures { result ≡ list_field_kind field }
-{
-    match field {
-        ListField::References => Some(TextKind::Reference),
-        ListField::Words => Some(TextKind::Word),
-        _ => None,
-    }
-}
 
 // Returns the kind, if the field is one of the variable.
 fn kind_if(var: Var, of: Var, kind: Option<TextKind>) -> Option<TextKind>
@@ -50,19 +26,18 @@ fn kind_if(var: Var, of: Var, kind: Option<TextKind>) -> Option<TextKind>
 }
 
 /// Returns the kind of text that a guard asks of the variable's document by a literal. `None` comes
-/// if and only if the guard isn't such a comparison or the index doesn't find documents by the
-/// field.
+/// if and only if the guard isn't such a comparison.
 pub(crate) fn literal_kind(var: Var, guard: &Atom) -> Option<TextKind>
     ensures { result ≡ literal_kind var guard.now }
 {
     match guard {
         Atom::Texts(TextExpr::Field(of, field), Op::Eq, TextExpr::Literal(_)) => {
-            kind_if(var, *of, field_kind(*field))
+            kind_if(var, *of, of_docs(field_kind(*field)))
         }
         Atom::Texts(TextExpr::Literal(_), Op::Eq, TextExpr::Field(of, field)) => {
-            kind_if(var, *of, field_kind(*field))
+            kind_if(var, *of, of_docs(field_kind(*field)))
         }
-        Atom::Has(of, field, TextExpr::Literal(_)) => kind_if(var, *of, list_field_kind(*field)),
+        Atom::Has(of, field, TextExpr::Literal(_)) => { kind_if(var, *of, Some(list_kind(*field))) }
         _ => None,
     }
 }

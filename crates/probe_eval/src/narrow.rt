@@ -11,7 +11,7 @@ ghost use Rattle.access_plan.specs.Accesses.{is_held, accesses_by};
 ghost use Rattle.access_plan.specs.Views.{access_at, option_access, reach_at};
 ghost use Rattle.probe_eval.specs.Nexts.{IsSole};
 ghost use Rattle.probe_eval.specs.Shortest.{shortest_after};
-ghost use Rattle.probe_eval.specs.SingleLists.{IsSorted, single_text};
+ghost use Rattle.probe_eval.specs.SingleLists.{IsSorted, single_key};
 ghost use Rattle.probe_eval.specs.StepRows.{step_accesses, step_access, passes_open, passes_guards};
 ghost use Rattle.probe_eval.specs.StepRows.{passes_path, passes_step, step_rows, next_rows};
 ghost use Rattle.probe_eval.specs.Work.{is_list, all_rows_by, rows_by};
@@ -238,8 +238,8 @@ pub fn step_rows<'a>(
     }
 }
 
-/// Returns the same rows, if the access goes by no text of which each document has at most one, or
-/// that text is absent, so that no list is looked for under it again.
+/// Returns the same rows, if the access goes by no key of which each document has at most one, or
+/// that key is absent, so that no list is looked for under it again.
 pub fn many_rows<'a>(
     path: &[Step],
     var: Var,
@@ -248,7 +248,7 @@ pub fn many_rows<'a>(
     env: &Env<'a>,
     index: &'a RowIndex,
 ) -> RowWalk<'a>
-    requires { single_text (access_at access) env.now ≡ None }
+    requires { single_key (access_at access) env.now ≡ None }
     ensures { result ≡ step_rows (access_at access.entry) var mark env.now path.now index.now }
 {
     match many_list(access, env, index) {

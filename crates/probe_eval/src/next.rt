@@ -6,7 +6,7 @@ ghost use Rattle.access_plan.specs.Nearest.{nearest};
 ghost use Rattle.time_marks.specs.declared.mark.Step.{Step};
 ghost use Rattle.tql_core.specs.Values.{Env};
 ghost use Rattle.access_plan.specs.declared.reach.Reach.{Reach};
-ghost use Rattle.probe_eval.specs.Nexts.{IsNearestIfKnown, IsSole};
+ghost use Rattle.probe_eval.specs.Nexts.{IsFoundNearest, IsNearestIfKnown, IsSole};
 
 use crate::given::sole_access;
 use access_plan::{AccessRef, ReachRef, nearest};
@@ -20,7 +20,7 @@ pub enum Next<'a> {
     Known(Option<ReachRef<'a>>, Option<AccessRef<'a>>),
 }
 
-// Returns the access by which the rows of the step are walked, if guards give no other one.
+// Returns the access by which the rows of the step are walked, if guards don't give several.
 fn sole_of<'a>(path: &'a [Step], reach: Option<ReachRef<'a>>, env: &Env) -> Option<AccessRef<'a>>
     ensures { IfSome (option_reach reach.entry) (λ r.
         IsSole path.now env.now r (option_access result)) }
@@ -33,11 +33,12 @@ fn sole_of<'a>(path: &'a [Step], reach: Option<ReachRef<'a>>, env: &Env) -> Opti
 
 impl<'a> Next<'a> {
     /// Returns the step of the path that is looked for next beside the rows of `env`. It is found
-    /// the first time.
+    /// the first time, and known from then on.
     pub fn get(&mut self, path: &'a [Step], env: &Env) -> Option<ReachRef<'a>>
         requires { IsNearestIfKnown path.now env.now self.old }
         ensures reach { option_reach result ≡ nearest path.now env.now }
         ensures next { IsNearestIfKnown path.now env.now self.new }
+        ensures found { IsFoundNearest path.now env.now self.new }
     {
         match *self {
             Next::Known(reach, _sole) => reach,
@@ -49,10 +50,10 @@ impl<'a> Next<'a> {
         }
     }
 
-    /// Returns the access by which the rows of the step are walked, if it was found that guards
-    /// give no other one beside rows of the same variables.
+    /// Returns the access by which the rows of the step that was found are walked. `None` comes if
+    /// and only if guards give several beside rows of the same variables.
     pub fn sole(&self) -> Option<AccessRef<'a>>
-        ensures { (path : List Step) (env : Env) (r : Reach) → IsNearestIfKnown path env self.now
+        ensures { (path : List Step) (env : Env) (r : Reach) → IsFoundNearest path env self.now
             → nearest path env ≡ Some r → IsSole path env r (option_access result) }
     {
         match *self {

@@ -1,9 +1,10 @@
 //! Whether the rest of a path exists beside some rows.
 
-ghost use Rattle.std.specs.Prelude.{◌≡◌, ◌+◌, ◌≤◌, [], length, Option};
+ghost use Rattle.std.specs.Prelude.{◌≡◌, ◌+◌, ◌≤◌, [], length, Option, Some};
+ghost use Rattle.access_plan.specs.declared.reach.Reach.{Reach};
 ghost use Rattle.tap_rows.specs.declared.tables.Tables.{Tables};
 ghost use Rattle.access_plan.specs.Views.{option_reach};
-ghost use Rattle.probe_eval.specs.Nexts.{IsNearestIfKnown};
+ghost use Rattle.probe_eval.specs.Nexts.{IsFoundNearest, IsNearestIfKnown};
 ghost use Rattle.probe_eval.specs.Rests.{further, rest_of, rest_cost};
 
 use crate::Next;
@@ -27,6 +28,8 @@ pub(crate) fn further_once<'a>(
     requires { IsNearestIfKnown path.now env.now next.old }
     ensures reach { option_reach result ≡ further path.now mark env.now }
     ensures next { IsNearestIfKnown path.now env.now next.new }
+    ensures found { (r : Reach) → option_reach result ≡ Some r
+        → IsFoundNearest path.now env.now next.new }
 {
     if may_go(path, mark, env) {
         next.get(path, env)

@@ -3,13 +3,15 @@
 ghost use Rattle.std.specs.Prelude.{◌≡◌, ◌+◌, [], ◌++◌, None, length, map, nat_eq, option_to_list};
 ghost use Rattle.std.specs.List.{find};
 ghost use Rattle.tql_core.specs.Row.{OfDoc, OfNote};
-ghost use Rattle.probe_eval.specs.RowWalks.{docs_under, referenced_left, rows_left, row_list};
+ghost use Rattle.probe_eval.specs.RowWalks.{table_left, each_left, rows_left, row_list};
+ghost use Rattle.probe_eval.specs.Work.{rows_with, rows_with_each};
 
+use crate::kinds::{FieldKind, field_kind};
 use row_index::{DocWalk, NoteWalk, RowIndex};
 use std::marker::Model;
 use std::sync::ledger::Ledger;
 use tap_base::{DocNum, Steps, Text};
-use tql_core::RowRef;
+use tql_core::{RowRef, TextField};
 
 // The document of a number.
 #[derive(Drop)]
@@ -18,13 +20,21 @@ struct One<'a> {
     num: DocNum,
 }
 
-// The documents of a list of message ids: those that are left of one of them, and the message ids
+// Rows that are left of one table.
+#[derive(Drop)]
+enum TableWalk<'a> {
+    Docs(DocWalk<'a>),
+    Notes(NoteWalk<'a>),
+}
+
+// The rows that have one of some texts as a field: those that are left of one text, and the texts
 // behind it.
 #[derive(Drop)]
-struct Referenced<'a> {
+struct Each<'a> {
     index: &'a RowIndex,
-    docs: DocWalk<'a>,
-    ids: &'a [Text],
+    field: TextField,
+    rows: TableWalk<'a>,
+    texts: &'a [Text],
 }
 
 // The rows that are left, by where they come from.
@@ -33,7 +43,7 @@ enum Left<'a> {
     Docs(DocWalk<'a>),
     Notes(NoteWalk<'a>),
     One(One<'a>),
-    Referenced(Referenced<'a>),
+    Each(Each<'a>),
     Nothing,
 }
 
@@ -65,24 +75,49 @@ fn doc_of<'a, L: Ledger>(one: &One<'a>, steps: &mut Steps<L>) -> Option<RowRef<'
     }
 }
 
-// Removes and returns the next document, with one step if there is one.
-fn next_referenced<'a, L: Ledger>(
-    walk: &mut Referenced<'a>,
-    steps: &mut Steps<L>,
-) -> Option<RowRef<'a>>
-    ensures rows { referenced_left walk.old ≡ row_list result ++ referenced_left walk.new }
-    ensures end { result ≡ None → referenced_left walk.old ≡ [] }
+// Returns the rows of which the field is the text, by one look-up.
+fn rows_with<'a>(field: TextField, text: &[u8], index: &'a RowIndex) -> TableWalk<'a>
+    ensures { table_left result ≡ rows_with field index.now text.now }
+{
+    match field_kind(field) {
+        FieldKind::OfDocs(kind) => TableWalk::Docs(index.by_text(kind, text).walk()),
+        FieldKind::OfNotes(kind) => TableWalk::Notes(index.notes_by(kind, text)),
+    }
+}
+
+// Removes and returns the next row, with one step if there is one.
+fn next_of<'a, L: Ledger>(walk: &mut TableWalk<'a>, steps: &mut Steps<L>) -> Option<RowRef<'a>>
+    ensures rows { table_left walk.old ≡ row_list result ++ table_left walk.new }
+    ensures end { result ≡ None → table_left walk.old ≡ [] }
     ensures steps { steps.new ≡ steps.old + length (row_list result) }
 {
-    'ids: loop {
-        if let Some(doc) = walk.docs.next(steps) {
-            return Some(RowRef::OfDoc(doc));
+    match walk {
+        TableWalk::Docs(docs) => match docs.next(steps) {
+            None => None,
+            Some(doc) => Some(RowRef::OfDoc(doc)),
+        },
+        TableWalk::Notes(notes) => match notes.next(steps) {
+            None => None,
+            Some(note) => Some(RowRef::OfNote(note)),
+        },
+    }
+}
+
+// Removes and returns the next row, with one step if there is one.
+fn next_of_each<'a, L: Ledger>(walk: &mut Each<'a>, steps: &mut Steps<L>) -> Option<RowRef<'a>>
+    ensures rows { each_left walk.old ≡ row_list result ++ each_left walk.new }
+    ensures end { result ≡ None → each_left walk.old ≡ [] }
+    ensures steps { steps.new ≡ steps.old + length (row_list result) }
+{
+    'texts: loop {
+        if let Some(row) = next_of(&mut walk.rows, steps) {
+            return Some(row);
         }
-        match walk.ids.split_first() {
+        match walk.texts.split_first() {
             None => return None,
-            Some((id, rest)) => {
-                walk.docs = walk.index.by_msgid(id.as_slice());
-                walk.ids = rest;
+            Some((text, rest)) => {
+                walk.rows = rows_with(walk.field, text.as_slice(), walk.index);
+                walk.texts = rest;
             }
         }
     }
@@ -126,16 +161,32 @@ impl<'a> RowWalk<'a> {
         }
     }
 
-    /// Returns a walk over the documents of these message ids, one id after the other.
-    pub fn of_ids(index: &'a RowIndex, ids: &'a [Text]) -> RowWalk<'a>
-        ensures { result ≡ docs_under index.now ids.now }
+    /// Returns a walk over the rows of which the field is the text, by one look-up.
+    pub(crate) fn of_text(index: &'a RowIndex, field: TextField, text: &[u8]) -> RowWalk<'a>
+        ensures { result ≡ rows_with field index.now text.now }
     {
-        match ids.split_first() {
+        match rows_with(field, text, index) {
+            TableWalk::Docs(docs) => RowWalk::of_docs(docs),
+            TableWalk::Notes(notes) => RowWalk::of_notes(notes),
+        }
+    }
+
+    /// Returns a walk over the rows of which the field is one of the texts, one text after the
+    /// other.
+    pub fn of_each(index: &'a RowIndex, field: TextField, texts: &'a [Text]) -> RowWalk<'a>
+        ensures { result ≡ rows_with_each field index.now texts.now }
+    {
+        match texts.split_first() {
             None => RowWalk::none(),
-            Some((id, ids)) => {
-                let docs = index.by_msgid(id.as_slice());
+            Some((text, texts)) => {
+                let rows = rows_with(field, text.as_slice(), index);
                 RowWalk {
-                    left: Left::Referenced(Referenced { index, docs, ids }),
+                    left: Left::Each(Each {
+                        index,
+                        field,
+                        rows,
+                        texts,
+                    }),
                 }
             }
         }
@@ -162,7 +213,7 @@ impl<'a> RowWalk<'a> {
                 self.left = Left::Nothing;
                 found
             }
-            Left::Referenced(walk) => next_referenced(walk, steps),
+            Left::Each(walk) => next_of_each(walk, steps),
             Left::Nothing => None,
         }
     }

@@ -17,17 +17,19 @@ use Rattle.tql_core.specs.Values.{Env, bind, lookup}
 use Rattle.time_marks.proofs.Envs.{bind_same}
 use Rattle.access_plan.specs.declared.reach.Reach.{Reach}
 use Rattle.row_index.specs.declared.text_kind.TextKind.{TextKind}
-use Rattle.row_index.specs.declared.text_kind.TextKind.TheVariants.{MsgId, Parent, Sender, Subject, Reference, Word}
-use Rattle.row_index.specs.contracts.text_kind.TextKindPartialEq.TheImpl as kind
+use Rattle.row_index.specs.declared.text_kind.TextKind.TheVariants.{MsgId, Parent, Sender, Subject, Reference, To, Cc, Newsgroups, Word}
+use Rattle.row_index.specs.contracts.text_kind.TextKindPartialEq.TheImpl as text_kind
 use Rattle.row_index.specs.Orders.{IsRisingBy, InPlace, doc_number, doc_arrival, doc_rank, doc_num}
-use Rattle.row_index.specs.Texts.{is_single, texts_of, with_text}
-use Rattle.row_index.proofs.SingleLists.{lists_of_one_kind_are_apart}
+use Rattle.probe_eval.specs.declared.list_kind.ListKind.{ListKind}
+use Rattle.probe_eval.specs.declared.list_kind.ListKind.TheVariants as L
+use Rattle.probe_eval.specs.contracts.list_kind.ListKindPartialEq.TheImpl as kind
 use Rattle.probe_eval.specs.declared.search.Search.{Search}
 use Rattle.probe_eval.specs.Searches.{searched}
-use Rattle.probe_eval.specs.SingleLists.{IsSorted}
+use Rattle.probe_eval.specs.SingleLists.{ListKey, kind_of, is_single_kind, docs_under, IsSorted}
 use Rattle.probe_eval.specs.Nested.{new_doc, hit_if, holds_here, hits_over}
 use Rattle.probe_eval.specs.Work.{total}
 use Rattle.probe_eval.proofs.HitSteps.{doc_hits}
+use Rattle.probe_eval.proofs.SingleListLaws.{lists_are_apart}
 use Rattle.query_eval.specs.declared.least_hits.LeastHits.{LeastHits}
 use Rattle.query_eval.specs.declared.fronts.Front.{Front}
 use Rattle.query_eval.specs.Lowest.{keeping}
@@ -36,14 +38,23 @@ use Rattle.query_eval.specs.Fronts.{AreBehind}
 use Rattle.query_eval.proofs.StableHits.{done_stays, done_later}
 use Rattle.query_eval.proofs.Steps.{keeping_append}
 
--- kinds that compare as equal are equal
-pub kind_is : (a b : TextKind) → kind.ghosts.eq a b ≡ true → a ≡ b
-kind_is MsgId MsgId h = refl
-kind_is Parent Parent h = refl
-kind_is Sender Sender h = refl
-kind_is Subject Subject h = refl
-kind_is Reference Reference h = refl
-kind_is Word Word h = refl
+-- kinds of texts that compare as equal are equal
+text_kind_is : (a b : TextKind) → text_kind.ghosts.eq a b ≡ true → a ≡ b
+text_kind_is MsgId MsgId h = refl
+text_kind_is Parent Parent h = refl
+text_kind_is Sender Sender h = refl
+text_kind_is Subject Subject h = refl
+text_kind_is Reference Reference h = refl
+text_kind_is To To h = refl
+text_kind_is Cc Cc h = refl
+text_kind_is Newsgroups Newsgroups h = refl
+text_kind_is Word Word h = refl
+text_kind_is _ _ h = absurd (false≢true h)
+
+-- kinds of lists that compare as equal are equal
+pub kind_is : (a b : ListKind) → kind.ghosts.eq a b ≡ true → a ≡ b
+kind_is (L.Text a) (L.Text b) h = ap L.Text (text_kind_is a b h)
+kind_is L.Size L.Size h = refl
 kind_is _ _ h = absurd (false≢true h)
 
 module _ {A : Type 0} where
@@ -99,11 +110,11 @@ sorted_behind n docs s =
 
 module _ (entries : List Entry) (docs : List Doc) (n : ℕ) (kept : List Hit) where
   -- nothing is said of no documents
-  pub passed_none : (kind : TextKind) (first : ℕ) (b : ℤ) → IsPassed entries docs n kept kind first b 0
-  passed_none kind first b = record { done = λ text begins. tt }
+  pub passed_none : (kind : ListKind) (first : ℕ) (b : ℤ) → IsPassed entries docs n kept kind first b 0
+  passed_none kind first b = record { done = λ key own begins. tt }
 
   -- what a stored front says of its list
-  pub passed_by : (fronts : List Front) (front : Front) (kind : TextKind) (first : ℕ) (b : ℤ) → ArePassed entries docs n kept fronts
+  pub passed_by : (fronts : List Front) (front : Front) (kind : ListKind) (first : ℕ) (b : ℤ) → ArePassed entries docs n kept fronts
       → In front fronts → IsFrontOf kind first b front → IsPassed entries docs n kept kind first b front.len
   passed_by fronts front kind first b a i o =
       let own = each_one (IsFrontPassed entries docs n kept) fronts front a.each i in
@@ -111,10 +122,10 @@ module _ (entries : List Entry) (docs : List Doc) (n : ℕ) (kept : List Hit) wh
       subst (λ f. IsPassed entries docs n kept kind f front.mark front.len) o.first_is
       (subst (λ k. IsPassed entries docs n kept k front.first front.mark front.len) o.kind_is own) in
       record {
-        done = λ text begins.
-            each-map (IsDone entries n kept front.mark) (IsDone entries n kept b) (take front.len (with_text (texts_of kind) text docs))
+        done = λ key own begins.
+            each-map (IsDone entries n kept front.mark) (IsDone entries n kept b) (take front.len (docs_under key docs))
             (λ d k. done_later entries n kept front.mark b d o.by k)
-            (same.done text begins);
+            (same.done key own begins);
       }
 
   pub passed_put : (fronts : List Front) (k : ℕ) (front : Front) → ArePassed entries docs n kept fronts
@@ -135,11 +146,11 @@ module _ (entries : List Entry) (docs : List Doc) (n : ℕ) (kept : List Hit) wh
     each = each-map (IsFrontPassed entries docs n kept) (IsFrontPassed entries docs n (keeping n kept hs)) fronts
         (λ front p.
         record {
-          done = λ text begins.
+          done = λ key own begins.
               each-map (IsDone entries n kept front.mark) (IsDone entries n (keeping n kept hs) front.mark)
-              (take front.len (with_text (texts_of front.kind) text docs))
+              (take front.len (docs_under key docs))
               (λ d k. done_stays entries n kept front.mark d hs k)
-              (p.done text begins);
+              (p.done key own begins);
         })
         a.each;
   }
@@ -159,13 +170,13 @@ number_at docs place num d e g = sym (num_is (e ∙ ap doc_num g))
     num_is q = cc
 
 -- the front of one list is that of each list of its kind that begins with the same document
-pub passed_here : (entries : List Entry) (docs : List Doc) (n : ℕ) (kept : List Hit) (kind : TextKind) (text : List ℕ) (list : List Doc)
-    (first : DocNum) (b : ℤ) (len : ℕ) → is_single kind ≡ true → InPlace doc_number doc_arrival docs
-    → list ≡ with_text (texts_of kind) text docs → Some first ≡ doc_num (slice_get list 0) → Each (IsDone entries n kept b) (take len list)
+pub passed_here : (entries : List Entry) (docs : List Doc) (n : ℕ) (kept : List Hit) (kind : ListKind) (key : ListKey) (list : List Doc)
+    (first : DocNum) (b : ℤ) (len : ℕ) → kind ≡ kind_of key → is_single_kind kind ≡ true → InPlace doc_number doc_arrival docs
+    → list ≡ docs_under key docs → Some first ≡ doc_num (slice_get list 0) → Each (IsDone entries n kept b) (take len list)
     → IsPassed entries docs n kept kind first.0 b len
-passed_here entries docs n kept kind text list first b len single stand is number done = record {
-  done = λ other begins.
-      subst (λ ds. Each (IsDone entries n kept b) (take len ds)) (is ∙ same other begins) done;
+passed_here entries docs n kept kind key list first b len own single stand is number done = record {
+  done = λ other k begins.
+      subst (λ ds. Each (IsDone entries n kept b) (take len ds)) (is ∙ same other (k ∙ own) begins) done;
 }
   where
     num_is : {x y : DocNum} → Some x ≡ Some y → x ≡ y
@@ -174,24 +185,25 @@ passed_here entries docs n kept kind text list first b len single stand is numbe
     none_is : {x : DocNum} → Some x ≡ None → ⊥
     none_is e = cc
 
-    meet : (other : List ℕ) (ls os : List Doc) → with_text (texts_of kind) text docs ≡ ls → with_text (texts_of kind) other docs ≡ os
-        → Some first ≡ doc_num (slice_get ls 0) → BeginsWith first.0 os
-        → with_text (texts_of kind) text docs ≡ with_text (texts_of kind) other docs
-    meet other ls [] l o n begins = absurd begins
-    meet other [] (e ∷ es) l o n begins = absurd (none_is n)
-    meet other (d ∷ ds) (e ∷ es) l o n begins =
-        lists_of_one_kind_are_apart kind text other docs d e ds es single stand l o (ap (λ (z : DocNum). z.0) (sym (num_is n)) ∙ sym begins)
+    meet : (other : ListKey) (ls os : List Doc) → kind_of other ≡ kind_of key → docs_under key docs ≡ ls → docs_under other docs ≡ os
+        → Some first ≡ doc_num (slice_get ls 0) → BeginsWith first.0 os → docs_under key docs ≡ docs_under other docs
+    meet other ls [] k l o n begins = absurd begins
+    meet other [] (e ∷ es) k l o n begins = absurd (none_is n)
+    meet other (d ∷ ds) (e ∷ es) k l o n begins =
+        lists_are_apart key other docs d e ds es (ap is_single_kind (sym own) ∙ single) k stand l o
+        (ap (λ (z : DocNum). z.0) (sym (num_is n)) ∙ sym begins)
 
-    same : (other : List ℕ) → BeginsWith first.0 (with_text (texts_of kind) other docs)
-        → with_text (texts_of kind) text docs ≡ with_text (texts_of kind) other docs
-    same other begins = meet other _ _ refl refl (number ∙ ap (λ ds. doc_num (slice_get ds 0)) is) begins
+    same : (other : ListKey) → kind_of other ≡ kind_of key → BeginsWith first.0 (docs_under other docs)
+        → docs_under key docs ≡ docs_under other docs
+    same other k begins = meet other _ _ k refl refl (number ∙ ap (λ ds. doc_num (slice_get ds 0)) is) begins
 
 -- what the fronts say of this list
-pub known_here : (entries : List Entry) (docs : List Doc) (n : ℕ) (kept : List Hit) (kind : TextKind) (text : List ℕ) (list : List Doc)
-    (first : DocNum) (b : ℤ) (len : ℕ) → list ≡ with_text (texts_of kind) text docs → Some first ≡ doc_num (slice_get list 0)
+pub known_here : (entries : List Entry) (docs : List Doc) (n : ℕ) (kept : List Hit) (kind : ListKind) (key : ListKey) (list : List Doc)
+    (first : DocNum) (b : ℤ) (len : ℕ) → kind ≡ kind_of key → list ≡ docs_under key docs → Some first ≡ doc_num (slice_get list 0)
     → IsPassed entries docs n kept kind first.0 b len → Each (IsDone entries n kept b) (take len list)
-known_here entries docs n kept kind text list first b len is number p =
-    subst (λ ds. Each (IsDone entries n kept b) (take len ds)) (sym is) (p.done text (subst (BeginsWith first.0) is (begins list number)))
+known_here entries docs n kept kind key list first b len own is number p =
+    subst (λ ds. Each (IsDone entries n kept b) (take len ds)) (sym is)
+    (p.done key (sym own) (subst (BeginsWith first.0) is (begins list number)))
   where
     num_is : {x y : DocNum} → Some x ≡ Some y → x ≡ y
     num_is e = cc

@@ -6,10 +6,10 @@ use Rattle.tap_rows.specs.declared.results.Entry.{Entry}
 use Rattle.tap_rows.specs.Kept.{Each}
 use Rattle.tql_core.specs.declared.term.Var.{Var}
 use Rattle.tql_core.specs.Row.{Row, OfDoc}
-use Rattle.row_index.specs.declared.text_kind.TextKind.{TextKind}
-use Rattle.row_index.specs.Texts.{texts_of, with_text}
+use Rattle.probe_eval.specs.declared.list_kind.ListKind.{ListKind}
 use Rattle.probe_eval.specs.declared.search.Search.{Search}
 use Rattle.probe_eval.specs.Nested.{hit_if, new_doc}
+use Rattle.probe_eval.specs.SingleLists.{ListKey, kind_of, docs_under}
 use Rattle.query_eval.specs.declared.least_hits.LeastHits.{LeastHits}
 use Rattle.query_eval.specs.declared.fronts.Front.{Front}
 use Rattle.query_eval.specs.declared.fronts.Fronts.{Fronts}
@@ -25,10 +25,10 @@ BeginsWith first [] = ⊥
 BeginsWith first (d ∷ ds) = d.num.0 ≡ first
 
 -- of each list of this kind that begins with this document, that many documents at its front are done
-pub record IsPassed (entries : List Entry) (docs : List Doc) (n : ℕ) (kept : List Hit) (kind : TextKind) (first : ℕ) (b : ℤ) (len : ℕ) :
+pub record IsPassed (entries : List Entry) (docs : List Doc) (n : ℕ) (kept : List Hit) (kind : ListKind) (first : ℕ) (b : ℤ) (len : ℕ) :
     Type 0 where
-  pub done : (text : List ℕ) → BeginsWith first (with_text (texts_of kind) text docs)
-      → Each (IsDone entries n kept b) (take len (with_text (texts_of kind) text docs))
+  pub done : (key : ListKey) → kind_of key ≡ kind → BeginsWith first (docs_under key docs)
+      → Each (IsDone entries n kept b) (take len (docs_under key docs))
 
 -- as `IsPassed`, as a search remembers it; AreDone: the documents of each front are done, by the rows and deliveries of a search
 abbrev pub IsFrontPassed : List Entry → List Doc → ℕ → List Hit → Front → Type 0
@@ -43,7 +43,7 @@ abbrev pub AreDone : Search → LeastHits → Fronts → Type 0
 AreDone s into fronts = ArePassed s.seen.now s.index.now.docs (length into.places.items) into.hits.items fronts.fronts.items
 
 -- the front is that of the list of this kind that begins with this document, and holds at this mark
-pub record IsFrontOf (kind : TextKind) (first : ℕ) (b : ℤ) (front : Front) : Type 0 where
+pub record IsFrontOf (kind : ListKind) (first : ℕ) (b : ℤ) (front : Front) : Type 0 where
   pub kind_is : front.kind ≡ kind
   pub first_is : front.first ≡ first
   pub by : front.mark ≤ℤ b

@@ -1,9 +1,10 @@
 //! Fronts of posting lists, behind which a walk begins.
 //!
 //! Many driving rows may lead to one posting list, as each document of a subject leads to all of
-//! that subject. Of a document that is in the box, or of which a hit is stored that is no later,
-//! nothing is asked. Without fronts each of them would be passed over once for each driving row;
-//! with them a run looks once at each that it finds.
+//! that subject, and each document of a size to all of that size. Of a document that is in the box,
+//! or of which a hit is stored that is no later, nothing is asked. Without fronts each of them
+//! would be passed over once for each driving row; with them a run looks once at each that it
+//! finds.
 
 ghost use Rattle.std.specs.Prelude.{◌≡◌, ◌<◌, ◌++◌, ◌∷◌, ℕ, List, [], true, length, slice_get};
 ghost use Rattle.std.specs.Prelude.{IfSome, vec_capacity};
@@ -13,7 +14,7 @@ ghost use Rattle.tap_rows.specs.declared.results.Hit.{Hit};
 ghost use Rattle.tap_rows.specs.declared.results.Entry.{Entry};
 ghost use Rattle.query_eval.specs.Fronts.{IsPassed, IsFrontPassed, ArePassed, IsFrontOf};
 
-use row_index::TextKind;
+use probe_eval::ListKind;
 use std::alloc::Global;
 use tap_base::{DocNum, Memory};
 
@@ -25,7 +26,7 @@ pub(crate) const LONG: usize = 8;
 /// documents no hit with this mark or a later one changes what is stored.
 #[derive(Clone, Copy, Drop)]
 pub(crate) struct Front {
-    pub(crate) kind: TextKind,
+    pub(crate) kind: ListKind,
     pub(crate) first: u32,
     pub(crate) mark: i64,
     pub(crate) len: usize,
@@ -41,7 +42,7 @@ pub(crate) struct Fronts {
 
 // Returns whether the front is that of the list of this kind that begins with this document, and
 // holds at this mark.
-fn is_front_of(front: &Front, kind: TextKind, first: u32, mark: i64) -> bool
+fn is_front_of(front: &Front, kind: ListKind, first: u32, mark: i64) -> bool
     ensures { result ≡ true → IsFrontOf kind first mark front.now }
 {
     if front.first != first {
@@ -86,7 +87,7 @@ impl Fronts {
 
     /// Returns how many documents at the front of the list of this kind that begins with this
     /// document are done at this mark.
-    pub(crate) fn done(&self, kind: TextKind, first: DocNum, mark: i64) -> usize
+    pub(crate) fn done(&self, kind: ListKind, first: DocNum, mark: i64) -> usize
         ensures { (entries : List Entry) (docs : List Doc) (n : ℕ) (kept : List Hit)
             → ArePassed entries docs n kept self.now.fronts.items
             → IsPassed entries docs n kept kind first.0 mark result }

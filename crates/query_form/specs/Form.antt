@@ -6,8 +6,6 @@ use Rattle.tql_tree.specs.declared.table.Table.{Table}
 use Rattle.tql_core.specs.declared.term.Var.{Var}
 use Rattle.tql_core.specs.declared.term.Base.{Base}
 use Rattle.tql_core.specs.declared.term.Base.TheVariants.{Arrival, Date, Fixed, ArrivalDay, DateDay}
-use Rattle.tql_core.specs.declared.atom.NumField.TheVariants as N
-use Rattle.tql_core.specs.declared.atom.TextField.TheVariants as T
 use Rattle.tql_core.specs.declared.atom.ListField.{ListField}
 use Rattle.tql_core.specs.declared.atom.ListField.TheVariants as L
 use Rattle.tql_core.specs.declared.atom.NumExpr.{NumExpr}
@@ -65,47 +63,23 @@ has_exists (Not x) = has_exists x
 has_exists (Exists w t x) = true
 has_exists _ = false
 
--- is a number a field by which the index finds the variable's rows?
-abbrev pub is_number_key : Var → NumExpr → Bool
-is_number_key v (Field w N.Id) = nat_eq w.0 v.0
-is_number_key v (Field w N.DocOf) = nat_eq w.0 v.0
-is_number_key v _ = false
+-- does one side name the variable, and the other not?
+abbrev pub is_of_one : Bool → Bool → Bool
+is_of_one x y = (x && not y) || (y && not x)
 
--- is a text a field by which the index finds the variable's rows?
-abbrev pub is_text_key : Var → TextExpr → Bool
-is_text_key v (X.Field w T.MsgId) = nat_eq w.0 v.0
-is_text_key v (X.Field w T.InReplyTo) = nat_eq w.0 v.0
-is_text_key v (X.Field w T.From) = nat_eq w.0 v.0
-is_text_key v (X.Field w T.Subject) = nat_eq w.0 v.0
-is_text_key v _ = false
-
--- is a list one by whose texts the index finds rows?
-abbrev pub is_list_key : ListField → Bool
-is_list_key L.References = true
-is_list_key L.Words = true
-is_list_key _ = false
-
--- is a text the variable's message id, looked for among another row's references?
-abbrev pub is_reference_key : Var → ListField → TextExpr → Bool
-is_reference_key v L.References (X.Field w T.MsgId) = nat_eq w.0 v.0
-is_reference_key v _ _ = false
-
--- is one number a key of the variable, and the other no field of its row?
-abbrev pub finds_by_numbers : Var → NumExpr → NumExpr → Bool
-finds_by_numbers v x y = (is_number_key v x && not (number_names v y)) || (is_number_key v y && not (number_names v x))
-
--- is one text a key of the variable, and the other no field of its row?
-abbrev pub finds_by_texts : Var → TextExpr → TextExpr → Bool
-finds_by_texts v x y = (is_text_key v x && not (text_names v y)) || (is_text_key v y && not (text_names v x))
+-- is a text the variable's, looked for in a list of another row that isn't its words?
+abbrev pub is_each_key : Var → ListField → TextExpr → Bool
+is_each_key v L.Words y = false
+is_each_key v _ y = text_names v y
 
 -- does the index find the variable's rows by an atom?
 abbrev pub is_index_key : Var → Atom → Bool
-is_index_key v (Numbers x O.Eq y) = finds_by_numbers v x y
+is_index_key v (Numbers x O.Eq y) = is_of_one (number_names v x) (number_names v y)
 is_index_key v (Numbers x _ y) = false
-is_index_key v (Texts x O.Eq y) = finds_by_texts v x y
+is_index_key v (Texts x O.Eq y) = is_of_one (text_names v x) (text_names v y)
 is_index_key v (Texts x _ y) = false
 is_index_key v (Times x op y) = false
-is_index_key v (Has w f y) = if nat_eq w.0 v.0 then is_list_key f && not (text_names v y) else is_reference_key v f y
+is_index_key v (Has w f y) = if nat_eq w.0 v.0 then not (text_names v y) else is_each_key v f y
 
 -- does each alternative have a key of the variable?
 abbrev pub has_key : Var → Condition → Bool

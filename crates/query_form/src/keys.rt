@@ -2,71 +2,28 @@
 
 ghost use Rattle.std.specs.Prelude.{◌≡◌};
 ghost use Rattle.tql_core.specs.Condition.{condition};
-ghost use Rattle.query_form.specs.Form.{is_number_key, is_text_key, is_list_key, is_reference_key};
-ghost use Rattle.query_form.specs.Form.{finds_by_numbers, finds_by_texts, is_index_key, has_key};
+ghost use Rattle.query_form.specs.Form.{is_of_one, is_each_key, is_index_key, has_key};
 
 use crate::names::{number_names, text_names};
 use tap_base::Op;
-use tql_core::{Atom, Cond, ListField, NumExpr, NumField, TextExpr, TextField, Var};
+use tql_core::{Atom, Cond, ListField, TextExpr, Var};
 
-// Returns whether a number is a field by which the index finds the variable's rows.
-fn is_number_key(var: Var, x: NumExpr) -> bool
-    ensures { result ≡ is_number_key var x }
+// Returns whether one side names the variable, and the other not.
+fn is_of_one(x: bool, y: bool) -> bool
+    ensures { result ≡ is_of_one x y }
 {
-    match x {
-        NumExpr::Field(of, NumField::Id) => of.0 == var.0,
-        NumExpr::Field(of, NumField::DocOf) => of.0 == var.0,
-        _ => false,
+    (x && !y) || (y && !x)
+}
+
+// Returns whether a text is the variable's, looked for in a list of another row that isn't its
+// words.
+fn is_each_key(var: Var, list: ListField, y: &TextExpr) -> bool
+    ensures { result ≡ is_each_key var list y.now }
+{
+    match list {
+        ListField::Words => false,
+        _ => text_names(var, y),
     }
-}
-
-// Returns whether a text is a field by which the index finds the variable's rows.
-fn is_text_key(var: Var, x: &TextExpr) -> bool
-    ensures { result ≡ is_text_key var x.now }
-{
-    match x {
-        TextExpr::Field(of, TextField::MsgId) => of.0 == var.0,
-        TextExpr::Field(of, TextField::InReplyTo) => of.0 == var.0,
-        TextExpr::Field(of, TextField::From) => of.0 == var.0,
-        TextExpr::Field(of, TextField::Subject) => of.0 == var.0,
-        _ => false,
-    }
-}
-
-// Returns whether a list is one by whose texts the index finds rows.
-fn is_list_key(field: ListField) -> bool
-    ensures { result ≡ is_list_key field }
-{
-    match field {
-        ListField::References => true,
-        ListField::Words => true,
-        _ => false,
-    }
-}
-
-// Returns whether a text is the variable's message id, looked for among another row's references.
-fn is_reference_key(var: Var, field: ListField, y: &TextExpr) -> bool
-    ensures { result ≡ is_reference_key var field y.now }
-{
-    match (field, y) {
-        (ListField::References, TextExpr::Field(of, TextField::MsgId)) => of.0 == var.0,
-        _ => false,
-    }
-}
-
-// Returns whether one number is a key of the variable, and the other no field of its row.
-fn finds_by_numbers(var: Var, x: NumExpr, y: NumExpr) -> bool
-    ensures { result ≡ finds_by_numbers var x y }
-{
-    (is_number_key(var, x) && !number_names(var, y))
-        || (is_number_key(var, y) && !number_names(var, x))
-}
-
-// Returns whether one text is a key of the variable, and the other no field of its row.
-fn finds_by_texts(var: Var, x: &TextExpr, y: &TextExpr) -> bool
-    ensures { result ≡ finds_by_texts var x.now y.now }
-{
-    (is_text_key(var, x) && !text_names(var, y)) || (is_text_key(var, y) && !text_names(var, x))
 }
 
 // Returns whether the index finds the variable's rows by an atom.
@@ -74,13 +31,13 @@ fn is_index_key(var: Var, atom: &Atom) -> bool
     ensures { result ≡ is_index_key var atom.now }
 {
     match atom {
-        Atom::Numbers(x, Op::Eq, y) => finds_by_numbers(var, *x, *y),
-        Atom::Texts(x, Op::Eq, y) => finds_by_texts(var, x, y),
-        Atom::Has(of, field, y) => {
+        Atom::Numbers(x, Op::Eq, y) => is_of_one(number_names(var, *x), number_names(var, *y)),
+        Atom::Texts(x, Op::Eq, y) => is_of_one(text_names(var, x), text_names(var, y)),
+        Atom::Has(of, list, y) => {
             if of.0 == var.0 {
-                is_list_key(*field) && !text_names(var, y)
+                !text_names(var, y)
             } else {
-                is_reference_key(var, *field, y)
+                is_each_key(var, *list, y)
             }
         }
         _ => false,

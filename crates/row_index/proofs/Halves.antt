@@ -1,12 +1,11 @@
--- Rows in order are cut in two by a test on their seconds or numbers.
-use Rattle.std.proofs.Common.{◌≡◌, ℕ, zero, suc, ◌-◌, ◌<◌, ◌≤◌, ℤ, pos, Bool, true, false, not, List, [], ◌∷◌, length, take, drop, filter}
+-- Rows in order are cut in two by a test.
+use Rattle.std.proofs.Common.{◌≡◌, ℕ, zero, suc, ◌-◌, ◌<◌, ◌≤◌, ℤ, Bool, true, false, not, List, [], ◌∷◌, length, take, drop, filter}
 use Rattle.std.proofs.Common.{refl, sym, ap, ◌∙◌, subst, inl, inr, arith}
-use Rattle.std.specs.Prelude.{int_le, int_lt, nat_le, nat_lt, slice_index_or}
+use Rattle.std.specs.Prelude.{int_le, int_lt, slice_index_or}
 use Rattle.std.specs.List.{list_all}
 use Rattle.std.specs.List.Sorted.{IsPartitionPoint, IsPartitionedBy}
 use Rattle.std.proofs.lemmas.Int.{ints}
 use Rattle.std.proofs.lemmas.List.{take_all, length-drop}
-use Rattle.std.proofs.lemmas.List.Elements.{filter_agree}
 use Rattle.std.proofs.lemmas.Bool.{cases_Bool, and_parts}
 use Rattle.row_index.specs.Orders.{IsRisingBy, in_window}
 
@@ -133,25 +132,3 @@ module _ {A : Type 0} (f : A → ℤ) where
   pub window_of : (low high : ℤ) (xs ys zs : List A) → ys ≡ filter (λ x. int_lt (f x) high) xs
       → zs ≡ filter (λ x. not (int_lt (f x) low)) ys → zs ≡ in_window f low high xs
   window_of low high xs ys zs e k = k ∙ rw e (window_is low high xs)
-
-module _ {A : Type 0} (number : A → ℕ) where
-  lower_below : (x y m : ℕ) → int_le (pos x) (pos y) ≡ true → nat_lt y m ≡ true → nat_lt x m ≡ true
-  lower_below x y m h k = grind (arith, ints)
-
-  lower_no_greater : (x y m : ℕ) → int_le (pos x) (pos y) ≡ true → nat_le y m ≡ true → nat_le x m ≡ true
-  lower_no_greater x y m h k = grind (arith, ints)
-
-  -- the rows below a number come before the others
-  pub below_first : (m : ℕ) (xs : List A) → IsRisingBy (λ x. pos (number x)) xs → IsPartitionedBy (λ x. nat_lt (number x) m) xs
-  below_first m xs r i j d a w h = lower_below _ _ m (rising_at (λ x. pos (number x)) xs i j d r a w) h
-
-  -- and so do those up to a number
-  pub no_greater_first : (m : ℕ) (xs : List A) → IsRisingBy (λ x. pos (number x)) xs → IsPartitionedBy (λ x. nat_le (number x) m) xs
-  no_greater_first m xs r i j d a w h = lower_no_greater _ _ m (rising_at (λ x. pos (number x)) xs i j d r a w) h
-
-  not_le : (x m : ℕ) → not (nat_le x m) ≡ nat_lt m x
-  not_le x m = grind arith
-
-  -- those that aren't up to a number are those above it
-  pub above_is : (m : ℕ) (xs : List A) → filter (λ x. not (nat_le (number x) m)) xs ≡ filter (λ x. nat_lt m (number x)) xs
-  above_is m xs = filter_agree (λ x. not (nat_le (number x) m)) (λ x. nat_lt m (number x)) (λ x. not_le (number x) m) xs

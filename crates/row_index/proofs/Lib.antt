@@ -10,5 +10,7 @@ pub mod TextLaws
 pub mod DateLaws
 pub mod PlaceLists
 pub mod ListWindows
+pub mod NumberLaws
+pub mod NoteLaws
 pub mod SingleLists
 pub mod HeldLaws

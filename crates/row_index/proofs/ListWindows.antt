@@ -10,7 +10,7 @@ use Rattle.tap_rows.specs.declared.rows.Doc.{Doc}
 use Rattle.tap_rows.specs.Kept.{Each}
 use Rattle.row_index.specs.Walks.{ArePlaces, HasRows, at_places, put_before}
 use Rattle.row_index.specs.Orders.{IsRisingBy, InPlace, in_window, doc_number, doc_rank, doc_arrival, doc_num, arrival_of, place_arrival}
-use Rattle.row_index.specs.Posts.{places_of, is_one_of}
+use Rattle.row_index.specs.Posts.{places_of, is_one_of, with_key}
 use Rattle.row_index.specs.Texts.{with_text}
 use Rattle.row_index.proofs.Halves.{rising_kept}
 use Rattle.row_index.proofs.InPlaces.{numbers_rise}
@@ -61,6 +61,22 @@ own_arrivals : (all docs : List Doc) → Each (IsOwn all) docs → Each (λ doc.
 own_arrivals all [] e = tt
 own_arrivals all (doc ∷ docs) e = (ap arrival_of e.0, own_arrivals all docs e.1)
 
+-- documents that have a key
+module _ {K : Type 0} (eq : K → K → Bool) (keys : Doc → List K) (key : K) (docs : List Doc)
+    (stand : InPlace doc_number doc_arrival docs) where
+  own_found : Each (IsOwn docs) (with_key eq keys key docs)
+  own_found = each_kept (IsOwn docs) (λ doc. is_one_of eq key (keys doc)) docs (all_own doc_number docs stand.numbered)
+
+  -- their places pick them
+  pub found_picked : (places : List ℕ) → places ≡ places_of doc_number (with_key eq keys key docs)
+      → at_places docs places ≡ with_key eq keys key docs
+  found_picked places e = ap (λ z. at_places docs z) e ∙ own_picked doc_number docs (with_key eq keys key docs) own_found
+
+  -- and at each of their places there is one
+  pub found_has_rows : (places : List ℕ) → places ≡ places_of doc_number (with_key eq keys key docs) → HasRows docs places
+  found_has_rows places e = ap length (found_picked places e)
+      ∙ sym (ap length e ∙ length_mapped doc_arrival (place_arrival docs) (λ doc. doc_number doc - 1) (with_key eq keys key docs))
+
 module _ (texts : Doc → List (List ℕ)) (text : List ℕ) (docs : List Doc) (stand : InPlace doc_number doc_arrival docs) where
   -- the documents of a posting list arrived one after another
   pub listed_arrive : IsRisingBy doc_arrival (with_text texts text docs)
@@ -71,7 +87,7 @@ module _ (texts : Doc → List (List ℕ)) (text : List ℕ) (docs : List Doc) (
   listed_numbers = rising_kept doc_rank (λ doc. is_one_of bytes_eq text (texts doc)) docs (numbers_rise doc_number 1 docs stand.numbered)
 
   pub own_listed : Each (IsOwn docs) (with_text texts text docs)
-  own_listed = each_kept (IsOwn docs) (λ doc. is_one_of bytes_eq text (texts doc)) docs (all_own doc_number docs stand.numbered)
+  own_listed = own_found bytes_eq texts text docs stand
 
   -- the documents of a posting list never fall in arrival
   pub listed_rise : (places : List ℕ) → places ≡ places_of doc_number (with_text texts text docs) → IsRisingBy (place_arrival docs) places
@@ -82,12 +98,11 @@ module _ (texts : Doc → List (List ℕ)) (text : List ℕ) (docs : List Doc) (
   -- the places of a posting list pick its documents
   pub listed_picked : (places : List ℕ) → places ≡ places_of doc_number (with_text texts text docs)
       → at_places docs places ≡ with_text texts text docs
-  listed_picked places e = ap (λ z. at_places docs z) e ∙ own_picked doc_number docs (with_text texts text docs) own_listed
+  listed_picked places e = found_picked bytes_eq texts text docs stand places e
 
   -- and at each of its places there is one
   pub listed_has_rows : (places : List ℕ) → places ≡ places_of doc_number (with_text texts text docs) → HasRows docs places
-  listed_has_rows places e = ap length (listed_picked places e)
-      ∙ sym (ap length e ∙ length_mapped doc_arrival (place_arrival docs) (λ doc. doc_number doc - 1) (with_text texts text docs))
+  listed_has_rows places e = found_has_rows bytes_eq texts text docs stand places e
 
   module _ (low high : ℤ) (places within : List ℕ) (all : places ≡ places_of doc_number (with_text texts text docs))
       (cut : within ≡ in_window (place_arrival docs) low high places) where

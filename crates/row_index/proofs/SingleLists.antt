@@ -9,7 +9,7 @@ use Rattle.std.proofs.lemmas.Option.{same_Some}
 use Rattle.tap_rows.specs.declared.rows.Doc.{Doc}
 use Rattle.tap_rows.specs.Kept.{Each}
 use Rattle.row_index.specs.declared.text_kind.TextKind.{TextKind}
-use Rattle.row_index.specs.declared.text_kind.TextKind.TheVariants.{MsgId, Parent, Sender, Subject, Reference, Word}
+use Rattle.row_index.specs.declared.text_kind.TextKind.TheVariants.{MsgId, Parent, Sender, Subject, Reference, To, Cc, Newsgroups, Word}
 use Rattle.row_index.specs.Orders.{InPlace, doc_number, doc_arrival}
 use Rattle.row_index.specs.Posts.{is_one_of}
 use Rattle.row_index.specs.Texts.{is_single, texts_of, with_text}
@@ -38,6 +38,9 @@ one_text Parent doc t u s h k = alone (fields doc).inreplyto t u h k
 one_text Sender doc t u s h k = alone (fields doc).from t u h k
 one_text Subject doc t u s h k = alone (fields doc).subject t u h k
 one_text Reference doc t u s h k = absurd cc
+one_text To doc t u s h k = absurd cc
+one_text Cc doc t u s h k = absurd cc
+one_text Newsgroups doc t u s h k = absurd cc
 one_text Word doc t u s h k = absurd cc
 
 -- the rows that a filter keeps pass its test

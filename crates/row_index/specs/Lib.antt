@@ -6,5 +6,7 @@ pub mod Places
 pub mod Posts
 pub mod Texts
 pub mod Dates
+pub mod Numbers
+pub mod Notes
 pub mod Held
 pub mod Laws

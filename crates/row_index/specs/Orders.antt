@@ -1,6 +1,6 @@
 -- Rows in order of arrival, and those of a window.
 use Rattle.std.specs.Prelude.{◌≡◌, ℕ, ◌+◌, ◌<◌, ◌^◌, ℤ, pos}
-use Rattle.std.specs.Prelude.{true, ◌&&◌, Option, Some, None, List, [], ◌∷◌, length, int_le, int_lt, nat_lt, filter, slice_get}
+use Rattle.std.specs.Prelude.{true, ◌&&◌, Option, Some, None, List, [], ◌∷◌, length, int_le, int_lt, filter, slice_get}
 use Rattle.std.specs.List.{list_all}
 use Rattle.tap_base.specs.declared.numbers.DocNum.{DocNum}
 use Rattle.tap_rows.specs.declared.rows.Doc.{Doc}
@@ -43,14 +43,6 @@ abbrev pub doc_num : Option Doc → Option DocNum
 doc_num None = None
 doc_num (Some doc) = Some doc.num
 
--- the documents whose number is greater than this one
-abbrev pub above_number : ℕ → List Doc → List Doc
-above_number num docs = filter (λ doc. nat_lt num doc.num.0) docs
-
--- the documents whose number is less than this one
-abbrev pub below_number : ℕ → List Doc → List Doc
-below_number num docs = filter (λ doc. nat_lt doc.num.0 num) docs
-
 -- the number of a document, among those that can be put in order
 abbrev pub doc_rank : Doc → ℤ
 doc_rank doc = pos doc.num.0
@@ -72,14 +64,3 @@ arrival_of (Some doc) = doc.arrival
 -- the arrival of the document at this place, 0 if there is none
 abbrev pub place_arrival : List Doc → ℕ → ℤ
 place_arrival docs place = arrival_of (slice_get docs place)
-
--- the number of the document, or 0 if there is none
-abbrev pub number_or_zero : Option Doc → ℕ
-number_or_zero None = 0
-number_or_zero (Some doc) = doc.num.0
-
-abbrev pub place_number : List Doc → ℕ → ℕ
-place_number docs place = number_or_zero (slice_get docs place)
-
-abbrev pub place_rank : List Doc → ℕ → ℤ
-place_rank docs place = pos (place_number docs place)

@@ -1,5 +1,5 @@
 -- Places that stand under the keys of their rows.
-use Rattle.std.specs.Prelude.{◌≡◌, ℕ, ◌-◌, Bool, false, List, [], ◌∷◌, ◌++◌, take, filter, map, if◌then◌else◌}
+use Rattle.std.specs.Prelude.{◌≡◌, ◌⊎◌, ℕ, ◌-◌, Bool, false, List, [], ◌∷◌, ◌++◌, take, filter, map, if◌then◌else◌}
 use Rattle.std.specs.Str.{bytes_eq}
 use Rattle.std.specs.List.{list_any}
 use Rattle.row_index.specs.Places.{under, ends_with, posted, unposted}
@@ -17,6 +17,10 @@ unposted_all eq (key ∷ keys) place es = unposted_all eq keys place (unposted e
 -- the place was put under the first few of the texts
 abbrev pub IsPartlyPosted : List (List ℕ) → ℕ → List (List ℕ × List ℕ) → List (List ℕ × List ℕ) → Type 0
 IsPartlyPosted keys place es fs = (n : ℕ) × (fs ≡ posted_all bytes_eq (take n keys) place es)
+
+-- the place was put under the key, or nothing was
+abbrev pub IsMaybePosted : {K : Type 0} → (K → K → Bool) → K → ℕ → List (K × List ℕ) → List (K × List ℕ) → Type 0
+IsMaybePosted eq key place es fs = (fs ≡ posted eq key place es) ⊎ (fs ≡ es)
 
 -- the place isn't the last one under any text
 abbrev pub IsFreePlace : ℕ → List (List ℕ × List ℕ) → Type 0

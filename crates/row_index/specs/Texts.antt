@@ -1,68 +1,84 @@
 -- The texts by which documents are found.
-use Rattle.std.specs.Prelude.{◌≡◌, ◌+◌, List, ℕ, Bool, true, false, length}
+use Rattle.std.specs.Prelude.{◌≡◌, ◌+◌, List, [], ℕ, zero, suc, Bool, true, false, length, get_or, nat_lt, if◌then◌else◌}
 use Rattle.std.specs.Str.{bytes_eq}
 use Rattle.std.specs.Option.{option_to_list}
 use Rattle.tap_rows.specs.declared.rows.Doc.{Doc}
 use Rattle.tap_rows.specs.declared.fields.Fields.{Fields}
 use Rattle.row_index.specs.declared.doc_texts.DocTexts.{DocTexts}
 use Rattle.row_index.specs.declared.text_kind.TextKind.{TextKind}
-use Rattle.row_index.specs.declared.text_kind.TextKind.TheVariants.{MsgId, Parent, Sender, Subject, Reference, Word}
+use Rattle.row_index.specs.declared.text_kind.TextKind.TheVariants.{MsgId, Parent, Sender, Subject, Reference, To, Cc, Newsgroups, Word}
 use Rattle.row_index.specs.Orders.{Numbered, doc_number}
 use Rattle.row_index.specs.Places.{cut_all}
 use Rattle.row_index.specs.Posts.{Posts, posted_all, IsPartlyPosted, with_key}
 use Rattle.tap_rows.specs.Fields.{fields}
 
--- the texts of a document by which it is found: its message id
-abbrev pub msgids : Doc → List (List ℕ)
-msgids doc = option_to_list (fields doc).msgid
+-- the place of a kind among all
+abbrev pub kind_place : TextKind → ℕ
+kind_place MsgId = 0
+kind_place Parent = 1
+kind_place Sender = 2
+kind_place Subject = 3
+kind_place Reference = 4
+kind_place To = 5
+kind_place Cc = 6
+kind_place Newsgroups = 7
+kind_place Word = 8
 
--- the message id that it replies to, or none
-abbrev pub parents : Doc → List (List ℕ)
-parents doc = option_to_list (fields doc).inreplyto
+-- the kind at a place
+abbrev pub kind_at : ℕ → TextKind
+kind_at zero = MsgId
+kind_at (suc zero) = Parent
+kind_at (suc (suc zero)) = Sender
+kind_at (suc (suc (suc zero))) = Subject
+kind_at (suc (suc (suc (suc zero)))) = Reference
+kind_at (suc (suc (suc (suc (suc zero))))) = To
+kind_at (suc (suc (suc (suc (suc (suc zero)))))) = Cc
+kind_at (suc (suc (suc (suc (suc (suc (suc zero))))))) = Newsgroups
+kind_at _ = Word
 
--- its sender, or none
-abbrev pub senders : Doc → List (List ℕ)
-senders doc = option_to_list (fields doc).from
-
--- its subject, or none
-abbrev pub subjects : Doc → List (List ℕ)
-subjects doc = option_to_list (fields doc).subject
-
--- the message ids among its references
-abbrev pub references_in : Doc → List (List ℕ)
-references_in doc = (fields doc).references
-
--- its words
+-- the words of a document
 abbrev pub words_in : Doc → List (List ℕ)
 words_in doc = (fields doc).words
 
--- its texts of this kind
+-- the texts of this kind among fields
+abbrev pub field_texts : TextKind → Fields → List (List ℕ)
+field_texts MsgId f = option_to_list f.msgid
+field_texts Parent f = option_to_list f.inreplyto
+field_texts Sender f = option_to_list f.from
+field_texts Subject f = option_to_list f.subject
+field_texts Reference f = f.references
+field_texts To f = f.to
+field_texts Cc f = f.cc
+field_texts Newsgroups f = f.newsgroups
+field_texts Word f = f.words
+
+-- the document's texts of this kind
 abbrev pub texts_of : TextKind → Doc → List (List ℕ)
-texts_of MsgId doc = msgids doc
-texts_of Parent doc = parents doc
-texts_of Sender doc = senders doc
-texts_of Subject doc = subjects doc
-texts_of Reference doc = references_in doc
-texts_of Word doc = words_in doc
+texts_of kind doc = field_texts kind (fields doc)
 
 -- has a document at most one text of this kind?
 abbrev pub is_single : TextKind → Bool
-is_single Reference = false
-is_single Word = false
-is_single _ = true
+is_single MsgId = true
+is_single Parent = true
+is_single Sender = true
+is_single Subject = true
+is_single _ = false
 
 -- the documents of which one of these texts is the given one
 abbrev pub with_text : (Doc → List (List ℕ)) → List ℕ → List Doc → List Doc
 with_text texts text docs = with_key bytes_eq texts text docs
 
+-- the places under each text of the kind at this place
+abbrev pub list_at : ℕ → DocTexts → List (List ℕ × List ℕ)
+list_at n texts = get_or texts.lists n []
+
+-- the places under each text of this kind
+abbrev pub list_of : TextKind → DocTexts → List (List ℕ × List ℕ)
+list_of kind texts = list_at (kind_place kind) texts
+
 -- under each text stand the places of the documents that have it
-pub record TextPosts (docs : List Doc) (texts : DocTexts) : Type 0 where
-  pub msgid : Posts bytes_eq msgids doc_number docs texts.msgid
-  pub parent : Posts bytes_eq parents doc_number docs texts.parent
-  pub sender : Posts bytes_eq senders doc_number docs texts.sender
-  pub subject : Posts bytes_eq subjects doc_number docs texts.subject
-  pub reference : Posts bytes_eq references_in doc_number docs texts.reference
-  pub word : Posts bytes_eq words_in doc_number docs texts.word
+abbrev pub TextPosts : List Doc → DocTexts → Type 0
+TextPosts docs texts = (kind : TextKind) → Posts bytes_eq (texts_of kind) doc_number docs (list_of kind texts)
 
 -- the document comes next after these, at this place
 pub record IsNext (docs : List Doc) (doc : Doc) (place : ℕ) : Type 0 where
@@ -70,47 +86,23 @@ pub record IsNext (docs : List Doc) (doc : Doc) (place : ℕ) : Type 0 where
   pub number : doc.num.0 ≡ length docs + 1
   pub behind : place ≡ length docs
 
--- a document was put under all its texts but its words
-pub record ArePosted (fields : Fields) (place : ℕ) (old new : DocTexts) : Type 0 where
-  pub msgid : new.msgid ≡ posted_all bytes_eq (option_to_list fields.msgid) place old.msgid
-  pub parent : new.parent ≡ posted_all bytes_eq (option_to_list fields.inreplyto) place old.parent
-  pub sender : new.sender ≡ posted_all bytes_eq (option_to_list fields.from) place old.sender
-  pub subject : new.subject ≡ posted_all bytes_eq (option_to_list fields.subject) place old.subject
-  pub reference : new.reference ≡ posted_all bytes_eq fields.references place old.reference
-  pub word : new.word ≡ old.word
+-- the lists of the first n kinds were changed so, and no others
+abbrev pub AreChanged : (ℕ → List (List ℕ × List ℕ) → List (List ℕ × List ℕ)) → ℕ → DocTexts → DocTexts → Type 0
+AreChanged change n old new = (k : ℕ) → list_at k new ≡ (if nat_lt k n then change k (list_at k old) else list_at k old)
 
--- a document was put under some of these texts
-pub record ArePartly (fields : Fields) (place : ℕ) (old new : DocTexts) : Type 0 where
-  pub msgid : IsPartlyPosted (option_to_list fields.msgid) place old.msgid new.msgid
-  pub parent : IsPartlyPosted (option_to_list fields.inreplyto) place old.parent new.parent
-  pub sender : IsPartlyPosted (option_to_list fields.from) place old.sender new.sender
-  pub subject : IsPartlyPosted (option_to_list fields.subject) place old.subject new.subject
-  pub reference : IsPartlyPosted fields.references place old.reference new.reference
-  pub word : new.word ≡ old.word
+-- a document of these fields was put under its texts of the first n kinds
+abbrev pub ArePosted : ℕ → Fields → ℕ → DocTexts → DocTexts → Type 0
+ArePosted n fields place old new = AreChanged (λ k es. posted_all bytes_eq (field_texts (kind_at k) fields) place es) n old new
 
--- a document was put under all its texts
-pub record IsPosted (doc : Doc) (place : ℕ) (old new : DocTexts) : Type 0 where
-  pub msgid : new.msgid ≡ posted_all bytes_eq (msgids doc) place old.msgid
-  pub parent : new.parent ≡ posted_all bytes_eq (parents doc) place old.parent
-  pub sender : new.sender ≡ posted_all bytes_eq (senders doc) place old.sender
-  pub subject : new.subject ≡ posted_all bytes_eq (subjects doc) place old.subject
-  pub reference : new.reference ≡ posted_all bytes_eq (references_in doc) place old.reference
-  pub word : new.word ≡ posted_all bytes_eq (words_in doc) place old.word
+-- a document of these fields was put under all its texts
+abbrev pub IsPosted : Fields → ℕ → DocTexts → DocTexts → Type 0
+IsPosted fields place old new =
+    (kind : TextKind) → list_of kind new ≡ posted_all bytes_eq (field_texts kind fields) place (list_of kind old)
 
--- a document was put under some of its texts
-pub record IsPartly (doc : Doc) (place : ℕ) (old new : DocTexts) : Type 0 where
-  pub msgid : IsPartlyPosted (msgids doc) place old.msgid new.msgid
-  pub parent : IsPartlyPosted (parents doc) place old.parent new.parent
-  pub sender : IsPartlyPosted (senders doc) place old.sender new.sender
-  pub subject : IsPartlyPosted (subjects doc) place old.subject new.subject
-  pub reference : IsPartlyPosted (references_in doc) place old.reference new.reference
-  pub word : IsPartlyPosted (words_in doc) place old.word new.word
+-- a document of these fields was put under some of its texts
+abbrev pub IsPartly : Fields → ℕ → DocTexts → DocTexts → Type 0
+IsPartly fields place old new = (kind : TextKind) → IsPartlyPosted (field_texts kind fields) place (list_of kind old) (list_of kind new)
 
 -- the places from len on were removed from under all texts
-pub record IsCut (len : ℕ) (old new : DocTexts) : Type 0 where
-  pub msgid : new.msgid ≡ cut_all len old.msgid
-  pub parent : new.parent ≡ cut_all len old.parent
-  pub sender : new.sender ≡ cut_all len old.sender
-  pub subject : new.subject ≡ cut_all len old.subject
-  pub reference : new.reference ≡ cut_all len old.reference
-  pub word : new.word ≡ cut_all len old.word
+abbrev pub IsCut : ℕ → DocTexts → DocTexts → Type 0
+IsCut len old new = (kind : TextKind) → list_of kind new ≡ cut_all len (list_of kind old)

@@ -111,11 +111,3 @@ pub(crate) fn places_within<'a>(
 {
     places_from(docs, places_before(docs, places, high), low)
 }
-
-// Returns the places of documents that arrived up to `last`.
-pub(crate) fn places_up_to<'a>(docs: &[KeptDoc], places: &'a [u32], last: i64) -> &'a [u32]
-    requires { IsRisingBy (place_arrival docs.now) places.now }
-    ensures { result.now ≡ up_to (place_arrival docs.now) last places.now }
-{
-    &places[..partition_point_from_end(places, |place| arrival_at(docs, *place) <= last)]
-}

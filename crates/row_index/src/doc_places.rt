@@ -1,25 +1,60 @@
-//! The places of documents by their texts and dates.
+//! The places of documents by their texts, dates and sizes.
 
 ghost use Rattle.std.specs.Prelude.{◌≡◌, ◌<◌, ◌-◌, List, [], ◌∷◌, ◌++◌, length, take};
-ghost use Rattle.std.specs.Prelude.{IfOk, OnOk, OnErr};
+ghost use Rattle.std.specs.Prelude.{pos, IfOk, OnOk, OnErr};
 ghost use Rattle.tap_rows.specs.declared.rows.Doc.{Doc};
-ghost use Rattle.row_index.specs.Dates.{DatePosts};
 ghost use Rattle.row_index.specs.Orders.{InPlace, doc_number, doc_arrival};
 ghost use Rattle.row_index.specs.Posts.{IsFreePlace};
-ghost use Rattle.row_index.specs.Texts.{IsNext, words_in};
-ghost use Rattle.row_index.specs.Held.{DocPosts};
+ghost use Rattle.row_index.specs.Texts.{IsNext, words_in, list_of};
+ghost use Rattle.row_index.specs.Held.{DocPosts, NumberPosts};
+ghost use Rattle.row_index.specs.declared.text_kind.TextKind.TheVariants.{Word};
+ghost use Rattle.tap_rows.specs.Fields.{fields};
 
 use crate::dates::Dates;
-use crate::doc_texts::DocTexts;
+use crate::doc_texts::{DocTexts, fields_in};
+use crate::number_places::NumberPlaces;
 use std::alloc::Global;
 use tap_base::{HashKey, Memory, MessageWords};
 use tap_rows::KeptDoc;
 
-/// The indexes of documents, by text and by date.
+/// The indexes of documents, by text, by date and by size.
 #[derive(Drop)]
 pub(crate) struct DocPlaces {
     pub(crate) texts: DocTexts,
     pub(crate) dates: Dates,
+    pub(crate) sizes: NumberPlaces,
+}
+
+// Returns the size of the document, in bytes.
+fn size_of(doc: &KeptDoc) -> i64
+    ensures { result ≡ pos (fields doc.now).size }
+{
+    i64::from(fields_in(doc).size)
+}
+
+// Adds the document's date and size, at the place after those of `docs`. After an error the
+// documents are found as before.
+fn add_numbers(
+    dates: &mut Dates,
+    sizes: &mut NumberPlaces,
+    doc: &KeptDoc,
+    place: u32,
+) -> Result<(), Memory>
+    ensures ok { OnOk result ((docs : List Doc) → IsNext docs doc.now place
+        → NumberPosts docs dates.old sizes.old
+        → NumberPosts (docs ++ doc.now ∷ []) dates.new sizes.new) }
+    ensures err { OnErr result ((docs : List Doc) → IsNext docs doc.now place
+        → NumberPosts docs dates.old sizes.old → NumberPosts docs dates.new sizes.new) }
+{
+    let size = size_of(doc);
+    sizes.add(size, place)?;
+    match dates.add(doc, place) {
+        Ok(()) => Ok(()),
+        Err(Memory) => {
+            sizes.forget(size, place);
+            Err(Memory)
+        }
+    }
 }
 
 impl DocPlaces {
@@ -30,13 +65,14 @@ impl DocPlaces {
         DocPlaces {
             texts: DocTexts::new(alloc, key),
             dates: Dates::new(alloc),
+            sizes: NumberPlaces::new(alloc, key),
         }
     }
 
     /// Adds the document at the place after those of `docs`, and returns its words, whose places
     /// are known then. After an error the documents are found as before.
     pub(crate) fn add(&mut self, doc: &KeptDoc, place: u32) -> Result<MessageWords, Memory>
-        requires { IsFreePlace place self.old.texts.word }
+        requires { IsFreePlace place (list_of Word self.old.texts) }
         ensures words { IfOk result (λ words. words ≡ words_in doc.now) }
         ensures ok { OnOk result ((docs : List Doc) → IsNext docs doc.now place
             → DocPosts docs self.old → DocPosts (docs ++ doc.now ∷ []) self.new) }
@@ -44,7 +80,7 @@ impl DocPlaces {
             → DocPosts docs self.old → DocPosts docs self.new) }
     {
         let words = self.texts.add(doc, place)?;
-        match self.dates.add(doc, place) {
+        match add_numbers(&mut self.dates, &mut self.sizes, doc, place) {
             Ok(()) => Ok(words),
             Err(Memory) => {
                 drop(words);
@@ -55,31 +91,33 @@ impl DocPlaces {
     }
 }
 
-// Removes the last document, and its date.
-fn cut_last(docs: &mut Vec<KeptDoc>, dates: &mut Dates)
+// Removes the last document, its date and its size.
+fn cut_last(docs: &mut Vec<KeptDoc>, dates: &mut Dates, sizes: &mut NumberPlaces)
     requires some { 0 < length docs.old.items }
     requires stand { InPlace doc_number doc_arrival docs.old.items }
-    requires dates { DatePosts docs.old.items dates.old }
+    requires numbers { NumberPosts docs.old.items dates.old sizes.old }
     ensures docs { docs.new.items ≡ take (length docs.old.items - 1) docs.old.items }
     ensures stand { InPlace doc_number doc_arrival docs.new.items }
-    ensures dates { DatePosts docs.new.items dates.new }
+    ensures numbers { NumberPosts docs.new.items dates.new sizes.new }
 {
     if let Some(doc) = docs.pop() {
-        dates.forget(&doc, docs.len() as u32);
+        let place = docs.len() as u32;
+        dates.forget(&doc, place);
+        sizes.forget(size_of(&doc), place);
         drop(doc);
     }
 }
 
-// Removes the documents after the first `len`, and their dates.
-fn cut_dates(docs: &mut Vec<KeptDoc>, dates: &mut Dates, len: usize)
+// Removes the documents after the first `len`, their dates and their sizes.
+fn cut_numbers(docs: &mut Vec<KeptDoc>, dates: &mut Dates, sizes: &mut NumberPlaces, len: usize)
     requires stand { InPlace doc_number doc_arrival docs.old.items }
-    requires dates { DatePosts docs.old.items dates.old }
+    requires numbers { NumberPosts docs.old.items dates.old sizes.old }
     ensures docs { docs.new.items ≡ take len docs.old.items }
     ensures stand { InPlace doc_number doc_arrival docs.new.items }
-    ensures dates { DatePosts docs.new.items dates.new }
+    ensures numbers { NumberPosts docs.new.items dates.new sizes.new }
 {
     'docs: while docs.len() > len {
-        cut_last(docs, dates);
+        cut_last(docs, dates, sizes);
     }
 }
 
@@ -92,7 +130,7 @@ pub(crate) fn cut_docs(docs: &mut Vec<KeptDoc>, places: &mut DocPlaces, len: usi
     ensures found { DocPosts docs.new.items places.new }
 {
     if len < docs.len() {
-        cut_dates(docs, &mut places.dates, len);
+        cut_numbers(docs, &mut places.dates, &mut places.sizes, len);
         places.texts.cut(len as u32);
     }
 }

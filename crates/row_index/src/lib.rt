@@ -9,7 +9,8 @@ mod doc_texts;
 mod from_end;
 pub mod laws;
 mod note_places;
-mod numbers;
+mod note_text_kind;
+mod number_places;
 mod places;
 mod posting_list;
 mod postings;
@@ -18,6 +19,7 @@ mod text_kind;
 mod walk;
 
 pub use cut::{Limit, ListCut, Order};
+pub use note_text_kind::NoteTextKind;
 pub use posting_list::PostingList;
 pub use row_index::RowIndex;
 pub use text_kind::TextKind;

@@ -3,12 +3,9 @@
 ghost use Rattle.std.specs.Prelude.{◌≡◌, length, drop, filter, slice_get};
 ghost use Rattle.row_index.specs.Cuts.{rank, keeps};
 ghost use Rattle.row_index.specs.Walks.{ArePlaces, at_places};
-ghost use Rattle.row_index.specs.Orders.{IsRisingBy, doc_arrival, doc_rank, doc_num, up_to};
-ghost use Rattle.row_index.specs.Orders.{above_number, below_number};
+ghost use Rattle.row_index.specs.Orders.{IsRisingBy, doc_num};
 
-use crate::arrivals::places_up_to;
 use crate::cut::{ListCut, places_cut};
-use crate::numbers::{places_above, places_below};
 use crate::walk::{DocWalk, Walk};
 use std::marker::Model;
 use tap_base::DocNum;
@@ -79,39 +76,6 @@ impl<'a> PostingList<'a> {
         PostingList {
             docs: self.docs,
             places: behind(self.places, place),
-        }
-    }
-
-    /// Returns the documents that arrived up to `last`, by halving.
-    pub fn arrived_to(self, last: i64) -> PostingList<'a>
-        requires { IsRisingBy doc_arrival self }
-        ensures { result ≡ up_to doc_arrival last self.entry }
-    {
-        PostingList {
-            docs: self.docs,
-            places: places_up_to(self.docs, self.places, last),
-        }
-    }
-
-    /// Returns the documents whose number is greater, by halving.
-    pub fn above(self, num: DocNum) -> PostingList<'a>
-        requires { IsRisingBy doc_rank self }
-        ensures { result ≡ above_number num.0 self.entry }
-    {
-        PostingList {
-            docs: self.docs,
-            places: places_above(self.docs, self.places, num),
-        }
-    }
-
-    /// Returns the documents whose number is less, by halving.
-    pub fn below(self, num: DocNum) -> PostingList<'a>
-        requires { IsRisingBy doc_rank self }
-        ensures { result ≡ below_number num.0 self.entry }
-    {
-        PostingList {
-            docs: self.docs,
-            places: places_below(self.docs, self.places, num),
         }
     }
 

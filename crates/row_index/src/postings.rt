@@ -5,9 +5,10 @@ ghost use Rattle.std.specs.Prelude.{IfOk, OnOk, OnErr};
 ghost use Rattle.std.specs.Str.{bytes_eq};
 ghost use Rattle.tap_base.specs.FirstPlaces.{HoldSameTexts};
 ghost use Rattle.row_index.specs.Posts.{posted_all, noted_then, IsPartlyPosted, IsFreePlace};
-ghost use Rattle.row_index.specs.Places.{under, ends_with, posted, is_used_key, cut_at, cut_all};
+ghost use Rattle.row_index.specs.Places.{under, ends_with, posted, unposted, is_used_key};
+ghost use Rattle.row_index.specs.Places.{cut_at, cut_all};
 
-use crate::places::{cut_places, put_place};
+use crate::places::{cut_places, drop_place, put_place};
 use indexmap::IndexMap;
 use std::alloc::Global;
 use std::marker::Model;
@@ -161,6 +162,15 @@ impl Postings {
                 Ok(())
             }
             None => Ok(()),
+        }
+    }
+
+    /// Removes the place from under the text, if it is the last one there.
+    pub(crate) fn forget(&mut self, key: &[u8], place: u32)
+        ensures { self.new ≡ unposted bytes_eq key.now place self.old }
+    {
+        if let Some(places) = self.places.get_mut(TextBytes(key)) {
+            drop_place(places, place);
         }
     }
 

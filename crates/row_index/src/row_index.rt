@@ -8,20 +8,23 @@ ghost use Rattle.tap_rows.specs.declared.rows.Note.{Note};
 ghost use Rattle.tap_rows.specs.declared.tables.Tables.{Tables};
 ghost use Rattle.tap_rows.specs.declared.change.Change.TheVariants.{Docs, OneNote};
 ghost use Rattle.tap_rows.specs.Arrivals.{Arrived};
+ghost use Rattle.tap_rows.specs.Fields.{fields};
 ghost use Rattle.tap_rows.specs.Kept.{Each};
 ghost use Rattle.tap_rows.specs.Tables.{no_rows, after};
 ghost use Rattle.row_index.specs.Orders.{InPlace, doc_number, doc_arrival, note_number};
 ghost use Rattle.row_index.specs.Orders.{note_arrival, in_window, up_to};
-ghost use Rattle.row_index.specs.Texts.{with_text, texts_of, msgids, parents, senders, subjects};
-ghost use Rattle.row_index.specs.Texts.{references_in, words_in};
+ghost use Rattle.row_index.specs.Texts.{with_text, texts_of};
 ghost use Rattle.row_index.specs.Dates.{dated_in};
-ghost use Rattle.row_index.specs.Held.{indexed_notes, AreOnDocs};
+ghost use Rattle.row_index.specs.Held.{indexed_notes, AreOnDocs, AreSized, AreValued};
+ghost use Rattle.row_index.specs.Numbers.{of_size, notes_valued};
+ghost use Rattle.row_index.specs.Notes.{note_texts_of, notes_with};
 ghost use Rattle.row_index.specs.Rows.{without_last_note};
 ghost use Rattle.tap_base.specs.Numbers.{IsMoment};
 
 use crate::arrivals::{docs_up_to, docs_within, notes_up_to, notes_within, places_within};
 use crate::doc_places::{DocPlaces, cut_docs};
 use crate::note_places::NotePlaces;
+use crate::note_text_kind::NoteTextKind;
 use crate::posting_list::PostingList;
 use crate::text_kind::TextKind;
 use crate::walk::{DocWalk, NoteWalk, Walk};
@@ -37,7 +40,7 @@ pub struct RowIndex {
     docs: Vec<KeptDoc>,
     places: DocPlaces,
     notes: Vec<Note>,
-    on_doc: NotePlaces,
+    note_places: NotePlaces,
     key: HashKey,
 }
 
@@ -51,7 +54,7 @@ impl Model for RowIndex {
     ghost view = { λ index. rows_alone index.docs.items index.notes.items };
 
     ghost invariant = { λ index.
-        IsIndexOf index.docs.items index.places index.notes.items index.on_doc };
+        IsIndexOf index.docs.items index.places index.notes.items index.note_places };
 }
 
 impl Drop for RowIndex {
@@ -62,7 +65,7 @@ impl Drop for RowIndex {
             docs: _,
             places: _,
             notes: _,
-            on_doc: _,
+            note_places: _,
             key: _,
         } = self;
     }
@@ -84,7 +87,7 @@ impl RowIndex {
             docs: Vec::new(alloc),
             places: DocPlaces::new(alloc, key),
             notes: Vec::new(alloc),
-            on_doc: NotePlaces::new(alloc),
+            note_places: NotePlaces::new(alloc, key),
             key,
         }
     }
@@ -95,20 +98,23 @@ impl RowIndex {
     }
 
     /// Returns how many documents there are. Their numbers are their places, from 1, and their
-    /// arrivals never fall.
+    /// arrivals never fall. Their sizes have 32 bits.
     pub fn docs(&self) -> u32
         ensures count { result ≡ length self.now.docs }
         ensures places { InPlace doc_number doc_arrival self.now.docs }
         ensures arrived { Arrived 1 (pos 0) self.now.docs }
+        ensures sizes { AreSized self.now.docs }
     {
         self.docs.len() as u32
     }
 
     /// Returns how many notes there are. Their numbers are their places, from 1, and their arrivals
-    /// never fall. The numbers of the documents that they are on have 32 bits.
+    /// never fall. The numbers of the documents that they are on have 32 bits, and their values 64
+    /// bits with a sign.
     pub fn notes(&self) -> u32
         ensures count { result ≡ length self.now.notes }
         ensures documents { AreOnDocs self.now.notes }
+        ensures values { AreValued self.now.notes }
         ensures places { InPlace note_number note_arrival self.now.notes }
     {
         self.notes.len() as u32
@@ -137,49 +143,6 @@ impl RowIndex {
         Walk::by_date(&self.docs, self.places.dates.within(low, high))
     }
 
-    /// Returns the documents whose Message-ID (RFC 5322 3.6.4) is the text, by one look-up.
-    pub fn by_msgid(&self, text: &[u8]) -> DocWalk<'_>
-        ensures { result ≡ with_text msgids text.now self.now.docs }
-    {
-        Walk::placed(&self.docs, self.places.texts.msgid.under(text))
-    }
-
-    /// Returns the documents whose In-Reply-To (RFC 5322 3.6.4) is the text, by one look-up.
-    pub fn by_parent(&self, text: &[u8]) -> DocWalk<'_>
-        ensures { result ≡ with_text parents text.now self.now.docs }
-    {
-        Walk::placed(&self.docs, self.places.texts.parent.under(text))
-    }
-
-    /// Returns the documents whose sender (RFC 5322 3.6.2) is the text, by one look-up.
-    pub fn by_sender(&self, text: &[u8]) -> DocWalk<'_>
-        ensures { result ≡ with_text senders text.now self.now.docs }
-    {
-        Walk::placed(&self.docs, self.places.texts.sender.under(text))
-    }
-
-    /// Returns the documents whose Subject (RFC 5322 3.6.5) is the text, by one look-up.
-    pub fn by_subject(&self, text: &[u8]) -> DocWalk<'_>
-        ensures { result ≡ with_text subjects text.now self.now.docs }
-    {
-        Walk::placed(&self.docs, self.places.texts.subject.under(text))
-    }
-
-    /// Returns the documents that have the text among their References (RFC 5322 3.6.4), by one
-    /// look-up.
-    pub fn by_reference(&self, text: &[u8]) -> DocWalk<'_>
-        ensures { result ≡ with_text references_in text.now self.now.docs }
-    {
-        Walk::placed(&self.docs, self.places.texts.reference.under(text))
-    }
-
-    /// Returns the documents of which the text is a word, by one look-up.
-    pub fn by_word(&self, text: &[u8]) -> DocWalk<'_>
-        ensures { result ≡ with_text words_in text.now self.now.docs }
-    {
-        Walk::placed(&self.docs, self.places.texts.word.under(text))
-    }
-
     /// Returns the documents that have the text, of this kind, by one look-up.
     pub fn by_text(&self, kind: TextKind, text: &[u8]) -> PostingList<'_>
         ensures { result ≡ with_text (texts_of kind) text.now self.now.docs }
@@ -203,18 +166,53 @@ impl RowIndex {
         PostingList::at(&self.docs, places_within(&self.docs, places, low, high))
     }
 
+    /// Returns the documents of this size, in bytes, by one look-up.
+    pub fn of_size(&self, size: u32) -> PostingList<'_>
+        ensures { result ≡ of_size size self.now.docs }
+    {
+        PostingList::at(&self.docs, self.places.sizes.under(i64::from(size)))
+    }
+
     /// Returns the notes on this document, by one look-up.
     pub fn notes_of(&self, doc: DocNum) -> NoteWalk<'_>
         ensures { result ≡ indexed_notes doc.0 self.now.notes }
     {
-        Walk::placed(&self.notes, self.on_doc.under(doc.0))
+        Walk::placed(&self.notes, self.note_places.doc.under(i64::from(doc.0)))
     }
 
     /// Returns how many notes are on this document, by one look-up and without a step.
     pub fn count_on(&self, doc: DocNum) -> usize
         ensures { result ≡ length (indexed_notes doc.0 self.now.notes) }
     {
-        self.on_doc.under(doc.0).len()
+        self.note_places.doc.under(i64::from(doc.0)).len()
+    }
+
+    /// Returns the notes that have the text, of this kind, by one look-up.
+    pub fn notes_by(&self, kind: NoteTextKind, text: &[u8]) -> NoteWalk<'_>
+        ensures { result ≡ notes_with (note_texts_of kind) text.now self.now.notes }
+    {
+        Walk::placed(&self.notes, self.note_places.under(kind, text))
+    }
+
+    /// Returns how many notes have the text, of this kind, by one look-up and without a step.
+    pub fn count_by(&self, kind: NoteTextKind, text: &[u8]) -> usize
+        ensures { result ≡ length (notes_with (note_texts_of kind) text.now self.now.notes) }
+    {
+        self.note_places.under(kind, text).len()
+    }
+
+    /// Returns the notes of this value, by one look-up.
+    pub fn notes_valued(&self, value: i64) -> NoteWalk<'_>
+        ensures { result ≡ notes_valued value self.now.notes }
+    {
+        Walk::placed(&self.notes, self.note_places.value.under(value))
+    }
+
+    /// Returns how many notes have this value, by one look-up and without a step.
+    pub fn count_valued(&self, value: i64) -> usize
+        ensures { result ≡ length (notes_valued value self.now.notes) }
+    {
+        self.note_places.value.under(value).len()
     }
 
     /// Returns the notes that arrived from `low` up to but not at `high`.
@@ -281,6 +279,8 @@ impl RowIndex {
         ensures err { OnErr result (self.new ≡ self.old) }
     {
         let place = doc_num(&doc) - 1;
+        // Brings into scope that the size has 32 bits.
+        let _size = doc_size(&doc);
         // Memory first, so that the push after the indexes can't fail.
         self.docs.reserve(1)?;
         let words = self.places.add(&doc, place)?;
@@ -301,7 +301,7 @@ impl RowIndex {
         let place = note.num.0 - 1;
         // Memory first, so that the push after the index can't fail.
         self.notes.reserve(1)?;
-        self.on_doc.add(note.doc.0, place)?;
+        self.note_places.add(&note, place)?;
         self.notes.push(note)?;
         Ok(())
     }
@@ -322,7 +322,8 @@ impl RowIndex {
             → self.new ≡ before }
     {
         if let Some(note) = self.notes.pop() {
-            self.on_doc.forget(note.doc.0, self.notes.len() as u32);
+            self.note_places.forget(&note, self.notes.len() as u32);
+            drop(note);
         }
     }
 }
@@ -332,6 +333,14 @@ fn doc_num(doc: &KeptDoc) -> u32
     ensures { result ≡ doc.now.num.0 }
 {
     doc.doc().num.0
+}
+
+// Returns the document's size, in bytes.
+#[tactic(auto, unfolding(tap_rows::specs::Fields::fields))]
+fn doc_size(doc: &KeptDoc) -> u32
+    ensures { result ≡ (fields doc.now).size }
+{
+    doc.fields().size
 }
 
 // Returns the document at this place, from 0.

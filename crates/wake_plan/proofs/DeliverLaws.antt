@@ -24,6 +24,12 @@ module _ {A : Type 0} where
       → rows ≡ r ∷ left → now ≡ has_hit (f r) → now ≡ false → whole ≡ has_hit (flat_map f left)
   next_row f whole rows left r now h e g q = h ∙ ap (λ z. has_hit (flat_map f z)) e ∙ none_first (f r) (flat_map f left) (sym g ∙ q)
 
+  -- the row that was handed out has a hit
+  pub found_row : (f : A → List Hit) (whole : Bool) (rows left : List A) (r : A) (now : Bool) → whole ≡ has_hit (flat_map f rows)
+      → rows ≡ r ∷ left → now ≡ has_hit (f r) → now ≡ true → true ≡ whole
+  found_row f whole rows left r now h e g q =
+      sym (h ∙ ap (λ z. has_hit (flat_map f z)) e ∙ some_first (f r) (flat_map f left) (sym g ∙ q))
+
 -- the steps for a document that isn't in the box
 pub unseen_cost : (entries : List Entry) (d : Doc) (num : DocNum) → Some num ≡ new_doc entries d → (s now cost : ℕ) → now ≤ s + cost
     → now ≤ s + (if was_seen entries d then 0 else cost)

@@ -1,6 +1,6 @@
 use Rattle.std.proofs.Common.{rules, ◌≡◌, ◌≤◌, ◌+◌, ◌∷◌, ◌∙◌, true, false, Some, ap, length, subst}
-use Rattle.access_plan.specs.Views.{reach_at}
-use Rattle.probe_eval.specs.Nexts.{IsNearestIfKnown}
+use Rattle.access_plan.specs.Views.{option_reach, reach_at}
+use Rattle.probe_eval.specs.Nexts.{IsFoundNearest}
 use Rattle.probe_eval.specs.Searches.{searched}
 use Rattle.probe_eval.specs.Rests.{further}
 use Rattle.probe_eval.specs.Nested.{is_once, is_walked, once_cost, hits_over}
@@ -18,7 +18,10 @@ returns-then-is_walked-clause-some g c =
     let q : c.is_once-sure.result ≡ is_once p.path c.args.env.now c.in_ok-rest.rest.now r.var = search rules in
     let w : is_walked c.args.search.now.index.now p c.args.mark c.is_once-sure.result c.args.order.now c.args.env.now ≡ true =
     search rules in
-    let k : IsNearestIfKnown p.path c.args.env.now c.further_once.new.next = search rules in
+    let found : option_reach c.further_once.result ≡ Some r = search rules in
+    let own : c.as_slice-path.result.now ≡ p.path = search rules in
+    let k : IsFoundNearest p.path c.args.env.now c.further_once.new.next =
+    subst (λ z. IsFoundNearest z c.args.env.now c.further_once.new.next) own (c.further_once.ensures.found r found) in
     record {
       hits = ap (λ z. hits_over c.args.search.now.seen.now c.args.search.now.index.now p c.args.mark z c.args.env.now) o
           ∙ next_hits c.args.search.now.seen.now c.args.search.now.index.now p

@@ -1,21 +1,43 @@
 use Rattle.std.proofs.Common.{rules, ◌≡◌, ◌∙◌, true, sym, ap}
-use Rattle.access_plan.specs.declared.access.Access.TheVariants.{NotesOf}
+use Rattle.access_plan.specs.declared.access.Access.TheVariants.{ByNumber, ByText, Whole}
+use Rattle.tql_core.specs.declared.atom.NumField.TheVariants.{DocOf, Value}
 use Rattle.access_plan.specs.Views.{access_at}
-use Rattle.probe_eval.specs.Shortest.{count_ids}
-use Rattle.probe_eval.specs.Work.{references_of, is_list, access_length}
-use Rattle.probe_eval.proofs.ShortestLaws.{counted_ids, none_counted}
+use Rattle.probe_eval.specs.Shortest.{count_each}
+use Rattle.probe_eval.specs.Work.{listed_texts, is_list, access_length}
+use Rattle.probe_eval.proofs.ShortestLaws.{counted_each, none_counted}
 use Rattle.probe_eval.proofs.lists.other_length.Goals as goal
 
-pub returns-in-ReferencedBy : goal.returns-in-ReferencedBy
-returns-in-ReferencedBy c =
-    let n : c.count_referenced.result ≡ count_ids c.args.index.now (references_of c.in-ReferencedBy.var c.args.env.now) = search rules in
-    n ∙ counted_ids c.args.index.now (references_of c.in-ReferencedBy.var c.args.env.now)
-    ∙ sym (ap (λ a. access_length c.args.index.now c.args.env.now (access_at a)) c.in-ReferencedBy.is)
+pub returns-in-ByNumber-DocOf-default : goal.returns-in-ByNumber-DocOf-default
+returns-in-ByNumber-DocOf-default c =
+    let n : c.count_notes.result ≡ access_length c.args.index.now c.args.env.now (ByNumber DocOf c.in-ByNumber-DocOf-default.e) =
+    search rules in
+    let a : access_at c.args.access ≡ ByNumber DocOf c.in-ByNumber-DocOf-default.e = search rules in
+    n ∙ sym (ap (access_length c.args.index.now c.args.env.now) a)
 
-pub returns-in-NotesOf : goal.returns-in-NotesOf
-returns-in-NotesOf c =
-    let n : c.count_notes.result ≡ access_length c.args.index.now c.args.env.now (NotesOf c.in-NotesOf.e) = search rules in
-    n ∙ sym (ap (λ a. access_length c.args.index.now c.args.env.now (access_at a)) c.in-NotesOf.is)
+pub returns-in-ByNumber-Value-default : goal.returns-in-ByNumber-Value-default
+returns-in-ByNumber-Value-default c =
+    let n : c.count_valued.result ≡ access_length c.args.index.now c.args.env.now (ByNumber Value c.in-ByNumber-Value-default.e) =
+    search rules in
+    let a : access_at c.args.access ≡ ByNumber Value c.in-ByNumber-Value-default.e = search rules in
+    n ∙ sym (ap (access_length c.args.index.now c.args.env.now) a)
+
+pub returns-in-ByText : goal.returns-in-ByText
+returns-in-ByText c =
+    let n : c.count_text.result ≡ access_length c.args.index.now c.args.env.now (ByText c.in-ByText.field c.in-ByText.e.now) =
+    search rules in
+    n ∙ sym (ap (λ a. access_length c.args.index.now c.args.env.now (access_at a)) c.in-ByText.is)
+
+pub returns-in-ByEach : goal.returns-in-ByEach
+returns-in-ByEach c =
+    let texts = listed_texts c.in-ByEach.var c.in-ByEach.list c.args.env.now in
+    let n : c.count_each.result ≡ count_each c.in-ByEach.field c.args.index.now texts = search rules in
+    n ∙ counted_each c.in-ByEach.field c.args.index.now texts
+    ∙ sym (ap (λ a. access_length c.args.index.now c.args.env.now (access_at a)) c.in-ByEach.is)
+
+pub returns-in-Whole : goal.returns-in-Whole
+returns-in-Whole c =
+    let n : c.count_rows.result ≡ access_length c.args.index.now c.args.env.now (Whole c.in-Whole.table) = search rules in
+    n ∙ sym (ap (λ a. access_length c.args.index.now c.args.env.now (access_at a)) c.in-Whole.is)
 
 pub returns-in_default : goal.returns-in_default
 returns-in_default c =

@@ -30,7 +30,7 @@ returns-in-None-clause-exists g t c =
 pub rows_beside-rows-requires : goal.rows_beside-rows-requires
 rows_beside-rows-requires g t c =
     let n : nearest c.args.path.now c.args.env.now ≡ Some (reach_at c.in-Some.reach) = search rules in
-    c.sole.ensures c.args.path.now c.args.env.now (reach_at c.in-Some.reach) c.get.ensures.next n
+    c.sole.ensures c.args.path.now c.args.env.now (reach_at c.in-Some.reach) c.get.ensures.found n
 
 pub rest_exists-requires : goal.rest_exists-requires
 rest_exists-requires g t c κs within =

@@ -1,6 +1,6 @@
 use Rattle.std.proofs.Common.{rules, ◌≡◌, true}
 use Rattle.std.specs.Prelude.{◌≤ℤ◌}
-use Rattle.row_index.specs.contracts.text_kind.TextKindPartialEq.TheImpl as kind
+use Rattle.probe_eval.specs.contracts.list_kind.ListKindPartialEq.TheImpl as kind
 use Rattle.query_eval.proofs.FrontLaws.{kind_is}
 use Rattle.query_eval.proofs.fronts.is_front_of.Goals as goal
 

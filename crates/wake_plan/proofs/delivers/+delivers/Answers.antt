@@ -1,4 +1,4 @@
-use Rattle.std.proofs.Common.{rules, ◌≡◌, ◌≤◌, ◌+◌, ◌∷◌, ◌∙◌, Some, false, arith, sym, ap, subst, to_z, of_z, w64, if◌then◌else◌}
+use Rattle.std.proofs.Common.{rules, ◌≡◌, ◌≤◌, ◌+◌, ◌∷◌, ◌∙◌, Some, true, false, arith, sym, ap, subst, to_z, of_z, w64, if◌then◌else◌}
 use Rattle.std.specs.Prelude.{option_to_list}
 use Rattle.std.specs.List.{flat_map}
 use Rattle.tql_core.specs.Bindings.{row_of}
@@ -12,7 +12,7 @@ use Rattle.probe_eval.proofs.Steps.{cost_step}
 use Rattle.probe_eval.proofs.HitSteps.{doc_hits, note_hits, doc_cost}
 use Rattle.probe_eval.proofs.LevelLaws.{level_steps}
 use Rattle.wake_plan.specs.Turns.{has_hit}
-use Rattle.wake_plan.proofs.DeliverLaws.{next_row}
+use Rattle.wake_plan.proofs.DeliverLaws.{next_row, found_row}
 use Rattle.probe_eval.specs.Searches.{searched}
 use Rattle.wake_plan.proofs.delivers.+delivers.Goals as goal
 
@@ -61,6 +61,19 @@ loop-row-preserved g t c =
       steps = cost_step _ _ _ _ _ _ _ (row_of c.in-Some-next.row) c.loop-row.invariant.steps e s k;
       more = omega (arith, i, s, m);
     }
+
+pub returns-then-delivers-clause-hits : goal.returns-then-delivers-clause-hits
+returns-then-delivers-clause-hits g t c =
+    let e : c.loop-row.rows ≡ row_of c.in-Some-next.row ∷ c.next.new.self = search rules in
+    let mark = to_z w64 (of_z w64 c.args.mark) in
+    let p = searched c.args.search.now in
+    let x = bind c.in-Some.level.reach.var (row_of c.in-Some-next.row) c.args.env.now in
+    let h : c.delivers.result
+    ≡ has_hit (hits_over c.args.search.now.seen.now c.args.search.now.index.now p mark c.in-Some.level.rest.now x) = search rules in
+    let n : c.delivers.result ≡ true = search rules in
+    let same : mark ≡ c.args.mark = search rules in
+    subst (λ b. true ≡ has_hit (hits_over c.args.search.now.seen.now c.args.search.now.index.now p b c.args.order.now c.args.env.now)) same
+    (found_row _ _ _ _ (row_of c.in-Some-next.row) _ c.loop-row.invariant.same e h n)
 
 pub returns-in-Some-OfDoc-clause-hits : goal.returns-in-Some-OfDoc-clause-hits
 returns-in-Some-OfDoc-clause-hits g t c =

@@ -20,3 +20,6 @@ returns-in-Unknown-clause-next c =
       is = e;
       sole = λ r n. subst (λ o. IfSome o (λ r. IsSole path env r sole)) (e ∙ n) c.sole_of.ensures;
     }
+
+pub returns-in-Unknown-clause-found : goal.returns-in-Unknown-clause-found
+returns-in-Unknown-clause-found c = returns-in-Unknown-clause-next c

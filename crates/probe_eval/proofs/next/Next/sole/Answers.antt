@@ -1,7 +1,7 @@
 use Rattle.std.proofs.Common.{rules}
 use Rattle.access_plan.specs.Views.{option_access, option_reach}
-use Rattle.probe_eval.specs.Nexts.{IsNextOf}
-use Rattle.probe_eval.proofs.GivenLaws.{sole_several}
+use Rattle.probe_eval.specs.Nexts.{IsNextOf, IsFoundNearest}
+use Rattle.probe_eval.specs.declared.next.Next.TheVariants.{Unknown}
 use Rattle.probe_eval.proofs.next.Next.sole.Goals as goal
 
 pub returns-in-Known : goal.returns-in-Known
@@ -10,4 +10,6 @@ returns-in-Known c path env r h e =
     k.sole r e
 
 pub returns-in-Unknown : goal.returns-in-Unknown
-returns-in-Unknown c path env r h e = sole_several path env r
+returns-in-Unknown c path env r h e =
+    let none : IsFoundNearest path env Unknown = search (rules, h) in
+    absurd none

@@ -1,18 +1,11 @@
-use Rattle.std.proofs.Common.{nat_eq, rules}
-use Rattle.row_index.proofs.Entries.{put_back, put_as_was, none_there}
-use Rattle.row_index.proofs.TextLaws.{at_err}
+use Rattle.std.proofs.lemmas.Result.{on_ok_weaker, on_err_weaker}
+use Rattle.row_index.proofs.NoteLaws.{notes_more, notes_undone}
 use Rattle.row_index.proofs.note_places.NotePlaces.add.Goals as goal
 
-pub begin-requires : goal.begin-requires
-begin-requires c = none_there nat_eq (λ k. k)
-    c.args.key c.self.inside.places.entries c.get_mut.follows.lender-at-none.entries (search rules) (search rules)
+pub returns-then-is_err-clause-err : goal.returns-then-is_err-clause-err
+returns-then-is_err-clause-err c = on_err_weaker c.put-done.result (λ f. λ notes n t. notes_undone notes
+    c.args.note.now c.args.place n c.args.self.now c.put-done.new.self c.forget.new.self f c.forget.ensures t) c.put-done.ensures.err
 
-pub returns-in_ok-put_place-in-Some-clause-ok : goal.returns-in_ok-put_place-in-Some-clause-ok
-returns-in_ok-put_place-in-Some-clause-ok c = put_back nat_eq (λ k. k) c.args.key c.args.place c.self.inside.places.entries _ _
-    c.in-Some.places.now c.put_place.new.places c.self.view_is (search rules) (c.get_mut.follows.holds c.put_place.new.places).0
-    c.in_ok-put_place-in-Some.ensures.ok
-
-pub returns-in_err-put_place-in-Some-clause-err : goal.returns-in_err-put_place-in-Some-clause-err
-returns-in_err-put_place-in-Some-clause-err c = at_err _ _ (put_as_was nat_eq (λ k. k) c.args.key c.self.inside.places.entries _ _
-    c.in-Some.places.now c.put_place.new.places c.self.view_is (search rules) (c.get_mut.follows.holds c.put_place.new.places).0
-    c.in_err-put_place-in-Some.ensures.err)
+pub returns-else-is_err-clause-ok : goal.returns-else-is_err-clause-ok
+returns-else-is_err-clause-ok c = on_ok_weaker c.put-done.result (λ f. λ notes n t. notes_more notes
+    c.args.note.now c.args.place n c.args.self.now c.put-done.new.self f t) c.put-done.ensures.ok

@@ -12,7 +12,8 @@ pub add-requires : goal.add-requires
 add-requires c =
     let number : c.args.doc.num.0 ≡ length c.self.inside.docs.items + 1 = search rules in
     let behind : c.doc_num-place.result - 1 ≡ length c.self.inside.docs.items = grind (arith, number, c.doc_num-place.ensures) in
-    word_place_free c.self.inside.docs.items c.self.inside.places c.self.inside.notes.items c.self.inside.on_doc _ c.self.invariant behind
+    word_place_free c.self.inside.docs.items c.self.inside.places c.self.inside.notes.items c.self.inside.note_places _
+    c.self.invariant behind
 
 pub set_words-requires : goal.set_words-requires
 unfolding fields
@@ -23,9 +24,11 @@ invariant_of-self-2 c =
     let old = c.self.inside.docs.items in
     let number : c.args.doc.num.0 ≡ length old + 1 = search rules in
     let fits : c.args.doc.num.0 < 2 ^ 32 = search rules in
+    let size : (fields c.args.doc).size < 2 ^ 32 = search rules in
     let late : Each (λ other. other.arrival ≤ℤ c.args.doc.arrival) old =
     subst (λ (t : Tables). Each (λ other. other.arrival ≤ℤ c.args.doc.arrival) t.docs) (sym c.self.view_is) c.requires.after in
     let found : (docs : List Doc) → IsNext docs c.args.doc (c.doc_num-place.result - 1) → DocPosts docs c.self.inside.places
     → DocPosts (docs ++ c.args.doc ∷ []) c.add.new.self = search rules in
     held_doc_more old c.push.new.self.items c.args.doc (c.doc_num-place.result - 1) c.self.inside.places c.add.new.self
-    c.self.inside.notes.items c.self.inside.on_doc c.self.invariant number fits c.requires.moment late (search rules) found (search rules)
+    c.self.inside.notes.items c.self.inside.note_places c.self.invariant number fits size c.requires.moment late
+    (search rules) found (search rules)

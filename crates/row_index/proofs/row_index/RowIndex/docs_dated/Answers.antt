@@ -10,5 +10,5 @@ returns c =
     let dates : (docs : List Doc) → DatePosts docs c.self.inside.places.dates
     → c.within.result ≡ map dated (dated_in c.args.low c.args.high docs) = search rules in
     found_dated c.args.low c.args.high c.self.inside.docs.items c.within.result c.by_date.result c.self.invariant.docs_stand.numbered
-    (search rules) (dates _ c.self.invariant.docs_found.dates)
+    (search rules) (dates _ c.self.invariant.docs_found.numbers.dates)
     ∙ ap (λ (t : Tables). dated_in c.args.low c.args.high t.docs) c.self.view_is

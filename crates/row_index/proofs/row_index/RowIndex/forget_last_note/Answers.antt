@@ -1,5 +1,4 @@
-use Rattle.std.proofs.Common.{rules, ◌≡◌, ◌++◌, ◌∷◌, [], length, nat_eq}
-use Rattle.row_index.specs.Places.{unposted}
+use Rattle.std.proofs.Common.{rules, ◌≡◌, ◌++◌, ◌∷◌, []}
 use Rattle.row_index.proofs.HeldLaws.{held_note_less}
 use Rattle.row_index.proofs.row_index.RowIndex.forget_last_note.Goals as goal
 
@@ -7,6 +6,5 @@ pub invariant_of-self : goal.invariant_of-self
 invariant_of-self c =
     let rest = c.pop.new.self.items in
     let all : c.self.inside.notes.items ≡ rest ++ c.in-Some.note ∷ [] = search rules in
-    let found : c.forget.new.self ≡ unposted nat_eq c.in-Some.note.doc.0 (length rest) c.self.inside.on_doc = search rules in
-    held_note_less c.self.inside.docs.items c.self.inside.places rest c.self.inside.notes.items c.in-Some.note (length rest)
-    c.self.inside.on_doc c.forget.new.self c.self.invariant all (search rules) found
+    held_note_less c.self.inside.docs.items c.self.inside.places rest c.self.inside.notes.items c.in-Some.note _
+    c.self.inside.note_places c.forget.new.self c.self.invariant all (search rules) c.forget.ensures
