@@ -123,8 +123,8 @@ fn has_order(alloc: Global, tenth: Rows<Atom>, order: &[Reach]) -> Result<bool, 
 fn numbers_before_words(alloc: Global) -> Result<bool, Memory> {
     let tenth = word_and_number(alloc)?;
     let order = [
-        reach(10, Access::ById(number(0, NumField::Id))),
-        reach(9, Access::AllDocs),
+        reach(10, Access::ByNumber(NumField::Id, number(0, NumField::Id))),
+        reach(9, Access::Whole(Table::Docs)),
     ];
     let same = has_order(alloc, tenth, &order);
     drop(order);
@@ -152,8 +152,14 @@ fn has_parent_order(alloc: Global, tenth: Rows<Atom>, order: &[Reach]) -> Result
 fn bound_before(alloc: Global) -> Result<bool, Memory> {
     let tenth = senders(alloc)?;
     let order = [
-        reach(10, Access::BySender(text(0, TextField::From))),
-        reach(9, Access::ByMsgId(text(10, TextField::InReplyTo))),
+        reach(
+            10,
+            Access::ByText(TextField::From, text(0, TextField::From)),
+        ),
+        reach(
+            9,
+            Access::ByText(TextField::MsgId, text(10, TextField::InReplyTo)),
+        ),
     ];
     let same = has_parent_order(alloc, tenth, &order);
     drop(order);
@@ -165,12 +171,48 @@ fn bound_before(alloc: Global) -> Result<bool, Memory> {
 fn tables_in_order(alloc: Global) -> Result<bool, Memory> {
     let tenth = parent(alloc)?;
     let order = [
-        reach(9, Access::AllDocs),
-        reach(10, Access::ByParent(text(9, TextField::MsgId))),
+        reach(9, Access::Whole(Table::Docs)),
+        reach(
+            10,
+            Access::ByText(TextField::InReplyTo, text(9, TextField::MsgId)),
+        ),
     ];
     let same = has_parent_order(alloc, tenth, &order);
     drop(order);
     same
+}
+
+// Returns the guards that the tenth document has a word, and that it is to the sender of m.
+fn word_and_addressee(alloc: Global) -> Result<Rows<Atom>, Memory> {
+    let word = Atom::Has(Var(10), ListField::Words, word(alloc)?);
+    let to = Atom::Has(Var(10), ListField::To, text(0, TextField::From));
+    Ok(Rows::from_vec(vec![in alloc; word, to]?))
+}
+
+// Returns the guard that m is to the sender of the tenth document.
+fn addressed_by(alloc: Global) -> Result<Rows<Atom>, Memory> {
+    let guard = Atom::Has(Var(0), ListField::To, text(10, TextField::From));
+    Ok(Rows::from_vec(vec![in alloc; guard]?))
+}
+
+// Returns whether the tenth document with these guards is found by this access.
+fn is_found_by(alloc: Global, tenth: Rows<Atom>, access: Access) -> Result<bool, Memory> {
+    let order = [reach(10, access), reach(9, Access::Whole(Table::Docs))];
+    let same = has_order(alloc, tenth, &order);
+    drop(order);
+    same
+}
+
+#[test]
+fn lists_serve_both_ways(rt: HostRuntime) -> Result<(), Memory> {
+    let alloc = rt.alloc();
+    let to = word_and_addressee(alloc)?;
+    let entry = Access::ByEntry(ListField::To, text(0, TextField::From));
+    assert!(rt; is_found_by(alloc, to, entry)?);
+    let from = addressed_by(alloc)?;
+    let each = Access::ByEach(Var(0), ListField::To, TextField::From);
+    assert!(rt; is_found_by(alloc, from, each)?);
+    Ok(())
 }
 
 #[test]
@@ -193,7 +235,10 @@ fn each_probe_has_its_order(rt: HostRuntime) -> Result<(), Memory> {
     let planned = planned(rt.alloc())?;
     assert_eq!(rt; planned.query.parts.len(), 1);
     assert_eq!(rt; planned.orders.len(), 1);
-    let order = [reach(0, Access::AllDocs), reach(10, Access::AllDocs)];
+    let order = [
+        reach(0, Access::Whole(Table::Docs)),
+        reach(10, Access::Whole(Table::Docs)),
+    ];
     assert!(rt; planned.orders.as_slice()[0].as_slice() == order.as_slice());
     drop(order);
     drop(planned);

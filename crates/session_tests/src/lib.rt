@@ -4,6 +4,8 @@
 #[cfg(test)]
 mod count_tests;
 #[cfg(test)]
+mod drawn_tests;
+#[cfg(test)]
 mod first_tests;
 #[cfg(test)]
 mod limit_tests;
@@ -17,5 +19,9 @@ mod sample_tests;
 mod script_tests;
 #[cfg(test)]
 mod shape_tests;
+#[cfg(test)]
+mod slow_asked;
+#[cfg(test)]
+mod slow_rows;
 #[cfg(test)]
 mod slow_tests;
