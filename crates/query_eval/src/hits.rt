@@ -25,7 +25,11 @@ impl Model for Hits {
 
     ghost Value = { HitsWithRoom };
 
-    ghost view = { λ h. record { hits = h.kept.hits.items; room = length h.kept.places.items } };
+    ghost view = { λ h. record {
+      hits = h.kept.hits.items;
+      room = length h.kept.places.items;
+      fronts = h.fronts.boxes.fronts.items;
+    } };
 
     ghost invariant = { λ h. HasRoom h.kept
         × (length h.kept.hits.items ≤ length h.kept.places.items) };
@@ -41,7 +45,7 @@ impl Drop for Hits {
 impl Hits {
     /// Returns no hits, with room for none.
     pub fn new(alloc: Global) -> Hits
-        ensures { result ≡ record { hits = []; room = 0 } }
+        ensures { result ≡ record { hits = []; room = 0; fronts = [] } }
     {
         Hits {
             kept: LeastHits {
@@ -55,7 +59,7 @@ impl Hits {
     /// Returns no hits, with room for one of each of the documents 1 to `n`. `Memory` comes if
     /// memory runs out.
     pub fn with_room(alloc: Global, n: u32) -> Result<Hits, Memory>
-        ensures { IfOk result (λ h. h ≡ record { hits = []; room = n }) }
+        ensures { IfOk result (λ h. h ≡ record { hits = []; room = n; fronts = [] }) }
     {
         let hits = Vec::with_capacity(alloc, n as usize)?;
         let mut places = Vec::new(alloc);
@@ -109,6 +113,7 @@ impl Hits {
     /// and then nothing has changed.
     pub fn grow(&mut self, n: u32) -> Result<(), Memory>
         ensures hits { self.new.hits ≡ self.old.hits }
+        ensures fronts { self.new.fronts ≡ self.old.fronts }
         ensures room { self.old.room ≤ self.new.room }
         ensures ok { OnOk result (n ≤ self.new.room) }
         ensures err { OnErr result (self.new ≡ self.old) }

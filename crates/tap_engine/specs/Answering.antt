@@ -17,6 +17,7 @@ use Rattle.tap_model.specs.Replies.{answer_of, tables_after}
 use Rattle.tap_model.specs.Stories.{Refuses}
 use Rattle.tap_kept.specs.declared.cached_query.CachedQuery.{CachedQuery}
 use Rattle.tap_kept.specs.Keeping.{without_run}
+use Rattle.tap_kept.specs.BoxFronts.{AreFrontsOfBoxes}
 use Rattle.vote_scores.specs.Tally as Tally
 use Rattle.tap_engine.specs.declared.engine.Engine.{Engine}
 use Rattle.tap_engine.specs.declared.fault.EngineFault.{EngineFault}
@@ -84,10 +85,13 @@ CanUndo (Note bytes vote) engine = (0 < length engine.index.notes) × Tally.CanU
 CanUndo (Run place covered runs entries run_count pick_count) engine = place < length engine.queries
 CanUndo undo engine = ⊤
 
--- the engine is unchanged but for its buffer of hits, which means nothing between commands and has room for no fewer
+-- the engine is unchanged but for its buffer of hits, which has room for no fewer, and whose fronts are still in the boxes of their
+-- queries
 pub record IsUnchangedButHits (engine before : Engine) : Type 0 where
   pub same : engine ≡ record before { hits = engine.hits }
   pub room : before.hits.room ≤ engine.hits.room
+  pub fronts : AreFrontsOfBoxes before.index.docs before.queries before.hits.fronts
+      → AreFrontsOfBoxes before.index.docs before.queries engine.hits.fronts
 
 -- the undo can be done, and gives the engine before it, except that its buffer of hits may have more room
 pub record UndoRestores (undo : Undo) (engine before : Engine) : Type 0 where

@@ -4,6 +4,7 @@ use Rattle.std.specs.Option.{option_or}
 use Rattle.tap_rows.specs.Kept.{Each}
 use Rattle.row_index.specs.Orders.{doc_arrival, note_arrival}
 use Rattle.tap_kept.specs.declared.cached_query.CachedQuery.{CachedQuery}
+use Rattle.tap_kept.specs.BoxFronts.{AreFrontsOfBoxes}
 use Rattle.tap_engine.specs.declared.engine.Engine.{Engine}
 use Rattle.tap_base.specs.Numbers.{IsMoment}
 
@@ -26,10 +27,11 @@ IsTime (Some moment) = IsMoment moment
 
 -- what the engine needs for its own steps: documents and notes not after the session's moment, or without one the greatest stored
 -- moment; queries at the places of their numbers, none with more runs than there are, each of which has covered up to a moment; a
--- session's moment in range; room for a hit of each document
+-- session's moment in range; room for a hit of each document; fronts that are in the boxes of their queries
 pub record IsReady (engine : Engine) : Type 0 where
   pub docs : RowsBy doc_arrival (option_or engine.session.moment engine.greatest) engine.index.docs
   pub notes : RowsBy note_arrival (option_or engine.session.moment engine.greatest) engine.index.notes
   pub queries : CachedFrom 1 engine.run_count engine.queries
   pub moment : IsTime engine.session.moment
   pub room : length engine.index.docs ≤ engine.hits.room
+  pub fronts : AreFrontsOfBoxes engine.index.docs engine.queries engine.hits.fronts

@@ -146,6 +146,7 @@ impl Engine {
         }) }
         ensures room { OnOk result (length self.new.index.docs ≤ self.new.hits.room) }
         ensures more { self.old.hits.room ≤ self.new.hits.room }
+        ensures fronts { self.new.hits.fronts ≡ self.old.hits.fronts }
         ensures err { OnErr result (IsUnchangedButHits self.new self.old) }
     {
         if texts.is_empty() {

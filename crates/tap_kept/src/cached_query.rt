@@ -6,6 +6,7 @@ ghost use Rattle.little_box.specs.Boxes.{is_in};
 ghost use Rattle.tap_rows.specs.Results.{entry_at};
 ghost use Rattle.tap_base.specs.declared.moments.TheConstants.{LAST_MOMENT};
 ghost use Rattle.time_marks.specs.NextWake.{next_wake};
+ghost use Rattle.query_eval.specs.BoxFronts.{AreInBox, AddsFronts};
 ghost use Rattle.tap_base.specs.Numbers.{IsMoment};
 
 use crate::entries::{add_entry, add_hits};
@@ -63,9 +64,13 @@ impl CachedQuery {
         requires covered { IsMoment self.now.covered }
         requires moment { IsMoment moment }
         requires room { length index.now.docs ≤ hits.old.room }
+        requires fronts { AreInBox self.now.row.num self.now.entries index.now.docs
+            hits.old.fronts }
         ensures hits { hits.new.hits ≡ hits_since self.now index.now moment }
         ensures new { AreNew self.now.entries hits.new.hits }
         ensures room { hits.new.room ≡ hits.old.room }
+        ensures fronts { AddsFronts self.now.row.num self.now.entries index.now.docs
+            hits.old.fronts hits.new.fronts }
         ensures steps { steps.new ≤ steps.old
             + query_work self.now.entries index.now (window_since self.now moment) self.now.row }
         ensures quiet { NoProbeHasMark index.now (window_since self.now moment) self.now.row
@@ -79,7 +84,16 @@ impl CachedQuery {
             low: self.covered,
             high: moment,
         };
-        run_into(self.row.plan(), index, &self.entries, window, hits, steps);
+        let query = self.row.row().num;
+        run_into(
+            self.row.plan(),
+            index,
+            &self.entries,
+            query,
+            window,
+            hits,
+            steps,
+        );
     }
 
     /// Returns the earliest moment from now on at which a run delivers, if no row is added: the

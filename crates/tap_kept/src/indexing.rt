@@ -54,6 +54,7 @@ fn fill_index(
     requires notes { FollowInOrder note_number note_arrival [] notes }
     ensures index { OnOk result (index.new ≡ rows_alone docs notes) }
     ensures room { IfOk result (λ hits. length index.new.docs ≤ hits.room) }
+    ensures fronts { IfOk result (λ hits. hits.fronts ≡ []) }
 {
     match add_docs(alloc, index, docs) {
         Ok(()) => {}
@@ -80,6 +81,7 @@ pub fn index_rows(
     requires notes { FollowInOrder note_number note_arrival [] notes }
     ensures index { IfOk result (λ made. made.0 ≡ rows_alone docs notes) }
     ensures room { IfOk result (λ made. length made.0.docs ≤ made.1.room) }
+    ensures fronts { IfOk result (λ made. made.1.fronts ≡ []) }
 {
     let mut index = RowIndex::with_key(alloc, key);
     match fill_index(alloc, &mut index, docs, notes) {
