@@ -1,5 +1,5 @@
 -- Fronts of posting lists that the boxes of queries hold.
-use Rattle.std.specs.Prelude.{◌≡◌, ◌≤◌, ◌⊎◌, ◌×◌, ℕ, List, true, length, take}
+use Rattle.std.specs.Prelude.{◌≡◌, ◌≤◌, ◌⊎◌, List, true, length, take}
 use Rattle.tap_base.specs.declared.numbers.QueryNum.{QueryNum}
 use Rattle.tap_rows.specs.declared.rows.Doc.{Doc}
 use Rattle.tap_rows.specs.declared.results.Entry.{Entry}

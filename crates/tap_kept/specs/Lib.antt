@@ -1,4 +1,5 @@
 pub mod Keeping
+pub mod BoxFronts
 pub mod Starting
 pub mod StoredRows
 pub mod Costs
