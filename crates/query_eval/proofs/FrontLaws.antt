@@ -1,11 +1,12 @@
 -- Fronts of posting lists, and what a walk behind them leaves out.
-use Rattle.std.proofs.Common.{◌≡◌, ◌∙◌, ◌+◌, ◌≤◌, ℕ, ℤ, zero, suc, Bool, true, Option, Some, None, List, [], ◌∷◌, ◌++◌, map, take}
+use Rattle.std.proofs.Common.{◌≡◌, ◌∙◌, ◌+◌, ◌≤◌, ◌<◌, ℕ, ℤ, zero, suc, Bool, true, Option, Some, None, List, [], ◌∷◌, ◌++◌, map, take}
 use Rattle.std.proofs.Common.{drop, refl, sym, ap, subst, inl, inr, arith}
 use Rattle.std.specs.Prelude.{◌≤ℤ◌, ◌⊎◌, IfSome, filter, length, slice_get, slice_set, option_to_list}
 use Rattle.std.specs.List.{flat_map}
 use Rattle.std.proofs.lemmas.Int.{ints}
 use Rattle.std.proofs.lemmas.Bool.{cases_Bool, false≢true}
 use Rattle.tap_base.specs.declared.numbers.DocNum.{DocNum}
+use Rattle.tap_base.specs.declared.numbers.QueryNum.{QueryNum}
 use Rattle.tap_rows.specs.declared.rows.Doc.{Doc}
 use Rattle.tap_rows.specs.declared.results.Hit.{Hit}
 use Rattle.tap_rows.specs.declared.results.Entry.{Entry}
@@ -19,23 +20,28 @@ use Rattle.access_plan.specs.declared.reach.Reach.{Reach}
 use Rattle.row_index.specs.declared.text_kind.TextKind.{TextKind}
 use Rattle.row_index.specs.declared.text_kind.TextKind.TheVariants.{MsgId, Parent, Sender, Subject, Reference, To, Cc, Newsgroups, Word}
 use Rattle.row_index.specs.contracts.text_kind.TextKindPartialEq.TheImpl as text_kind
-use Rattle.row_index.specs.Orders.{IsRisingBy, InPlace, doc_number, doc_arrival, doc_rank, doc_num}
+use Rattle.little_box.specs.Boxes.{is_in}
+use Rattle.row_index.specs.Orders.{IsRisingBy, InPlace, Numbered, doc_number, doc_arrival, doc_rank, doc_num}
 use Rattle.probe_eval.specs.declared.list_kind.ListKind.{ListKind}
 use Rattle.probe_eval.specs.declared.list_kind.ListKind.TheVariants as L
 use Rattle.probe_eval.specs.contracts.list_kind.ListKindPartialEq.TheImpl as kind
 use Rattle.probe_eval.specs.declared.search.Search.{Search}
 use Rattle.probe_eval.specs.Searches.{searched}
-use Rattle.probe_eval.specs.SingleLists.{ListKey, kind_of, is_single_kind, docs_under, IsSorted}
+use Rattle.probe_eval.specs.SingleLists.{ListKey, kind_of, is_single_kind, is_under_key, docs_under, IsSorted}
 use Rattle.probe_eval.specs.Nested.{new_doc, hit_if, holds_here, hits_over}
 use Rattle.probe_eval.specs.Work.{total}
 use Rattle.probe_eval.proofs.HitSteps.{doc_hits}
 use Rattle.probe_eval.proofs.SingleListLaws.{lists_are_apart}
 use Rattle.query_eval.specs.declared.least_hits.LeastHits.{LeastHits}
+use Rattle.query_eval.specs.declared.box_front.BoxFront.{BoxFront}
+use Rattle.query_eval.specs.declared.box_fronts.BoxFronts.{BoxFronts}
 use Rattle.query_eval.specs.declared.fronts.Front.{Front}
+use Rattle.query_eval.specs.declared.fronts.Fronts.{Fronts}
 use Rattle.query_eval.specs.Lowest.{keeping}
-use Rattle.query_eval.specs.Fronts.{IsDone, BeginsWith, IsPassed, IsFrontPassed, ArePassed, IsFrontOf, AreDoneDocs, AreDocsBehind}
-use Rattle.query_eval.specs.Fronts.{AreBehind}
-use Rattle.query_eval.proofs.StableHits.{done_stays, done_later}
+use Rattle.query_eval.specs.Fronts.{IsDone, BeginsWith, IsPassed, AreDoneDocs, AreDocsBehind, AreBehind}
+use Rattle.query_eval.specs.BoxFronts.{IsInBox, AreInBox, AddsFronts, AddsFront, AreBoxed, IsBoxed, IsBoxFrontOf}
+use Rattle.query_eval.specs.RunFronts.{IsFrontOf, IsKnownFront, IsFrontPassed, ArePassed, AreDone}
+use Rattle.query_eval.proofs.StableHits.{done_stays, done_later, done_by_box}
 use Rattle.query_eval.proofs.Steps.{keeping_append}
 
 -- kinds of texts that compare as equal are equal
@@ -68,10 +74,15 @@ module _ {A : Type 0} where
   got_in (y ∷ ys) zero (Some x) e = inl (some_is e)
   got_in (y ∷ ys) (suc k) (Some x) e = inr (got_in ys k (Some x) e)
 
-  each_one : (P : A → Type 0) (xs : List A) (x : A) → Each P xs → In x xs → P x
+  pub each_one : (P : A → Type 0) (xs : List A) (x : A) → Each P xs → In x xs → P x
   each_one P [] x h i = absurd i
   each_one P (y ∷ ys) x h (inl e) = subst P (sym e) h.0
   each_one P (y ∷ ys) x h (inr i) = each_one P ys x h.1 i
+
+  -- each of the items is one of them
+  each_in : (xs : List A) → Each (λ x. In x xs) xs
+  each_in [] = tt
+  each_in (y ∷ ys) = (inl refl, each-map (λ x. In x ys) (λ x. In x (y ∷ ys)) ys (λ x i. inr i) (each_in ys))
 
   each_put : (P : A → Type 0) (xs : List A) (k : ℕ) (x : A) → Each P xs → P x → Each P (slice_set xs k x)
   each_put P [] k x h p = h
@@ -108,25 +119,62 @@ pub sorted_behind : (n : ℕ) (docs : List Doc) → IsSorted docs → IsSorted (
 sorted_behind n docs s =
     record { arrivals = rising_behind doc_arrival n docs s.arrivals; numbers = rising_behind doc_rank n docs s.numbers }
 
-module _ (entries : List Entry) (docs : List Doc) (n : ℕ) (kept : List Hit) where
-  -- nothing is said of no documents
-  pub passed_none : (kind : ListKind) (first : ℕ) (b : ℤ) → IsPassed entries docs n kept kind first b 0
-  passed_none kind first b = record { done = λ key own begins. tt }
+-- as many documents as are in the box are done at each mark
+pub boxed_done : (entries : List Entry) (n : ℕ) (kept : List Hit) (b : ℤ) (len : ℕ) (list : List Doc) → AreBoxed entries len list
+    → Each (IsDone entries n kept b) (take len list)
+boxed_done entries n kept b len list h =
+    each-map (λ (d : Doc). is_in d.num.0 entries ≡ true) (IsDone entries n kept b) (take len list)
+    (λ d i. done_by_box entries n kept b d d.num refl i)
+    h.boxed
 
-  -- what a stored front says of its list
-  pub passed_by : (fronts : List Front) (front : Front) (kind : ListKind) (first : ℕ) (b : ℤ) → ArePassed entries docs n kept fronts
-      → In front fronts → IsFrontOf kind first b front → IsPassed entries docs n kept kind first b front.len
-  passed_by fronts front kind first b a i o =
-      let own = each_one (IsFrontPassed entries docs n kept) fronts front a.each i in
-      let same : IsPassed entries docs n kept kind first front.mark front.len =
-      subst (λ f. IsPassed entries docs n kept kind f front.mark front.len) o.first_is
-      (subst (λ k. IsPassed entries docs n kept k front.first front.mark front.len) o.kind_is own) in
-      record {
-        done = λ key own begins.
-            each-map (IsDone entries n kept front.mark) (IsDone entries n kept b) (take front.len (docs_under key docs))
-            (λ d k. done_later entries n kept front.mark b d o.by k)
-            (same.done key own begins);
-      }
+-- one more at the end of a front that is in the box
+pub boxed_more : (entries : List Entry) (list : List Doc) (len : ℕ) → AreBoxed entries len list → len < length list
+    → ((d : Doc) → slice_get list len ≡ Some d → is_in d.num.0 entries ≡ true) → AreBoxed entries (len + 1) list
+boxed_more entries list len h l f = record {
+  there = omega (arith, l);
+  boxed = each_longer (λ (d : Doc). is_in d.num.0 entries ≡ true) list len h.boxed f;
+}
+
+module _ (entries : List Entry) (docs : List Doc) (n : ℕ) (kept : List Hit) where
+  -- so a front that the box holds is passed over at each mark
+  pub boxed_passed : (kind : ListKind) (first : ℕ) (b : ℤ) (len : ℕ) → IsBoxed entries docs kind first len
+      → IsPassed entries docs n kept kind first b len
+  boxed_passed kind first b len h = record {
+    done = λ key own begins. boxed_done entries n kept b len (docs_under key docs) (h.lists key own begins);
+  }
+
+  -- and any front at a later mark
+  pub passed_later : (kind : ListKind) (first : ℕ) (b c : ℤ) (len : ℕ) → b ≤ℤ c → IsPassed entries docs n kept kind first b len
+      → IsPassed entries docs n kept kind first c len
+  passed_later kind first b c len l p = record {
+    done = λ key own begins.
+        each-map (IsDone entries n kept b) (IsDone entries n kept c) (take len (docs_under key docs))
+        (λ d k. done_later entries n kept b c d l k)
+        (p.done key own begins);
+  }
+
+  -- a known front is passed over
+  pub known_passed : (fronts : List Front) (kind : ListKind) (first : ℕ) (front : Front) → ArePassed entries docs n kept fronts
+      → IsKnownFront kind first fronts front → IsFrontPassed entries docs n kept front
+  known_passed fronts kind first front a k = each_one (IsFrontPassed entries docs n kept) fronts front a.each k.known
+
+  -- what a front says of a list
+  pub passed_of : (front : Front) (kind : ListKind) (first : ℕ) (b : ℤ) (len : ℕ) → IsFrontOf kind first front
+      → IsPassed entries docs n kept front.kind front.first.0 b len → IsPassed entries docs n kept kind first b len
+  passed_of front kind first b len o p =
+      subst (λ f. IsPassed entries docs n kept kind f b len) o.first_is
+      (subst (λ k. IsPassed entries docs n kept k front.first.0 b len) o.kind_is p)
+
+  -- a front of this list, of which more is done
+  pub front_more : (front : Front) (kind : ListKind) (first : DocNum) (b : ℤ) (len : ℕ) → IsFrontOf kind first.0 front
+      → IsFrontPassed entries docs n kept front → IsPassed entries docs n kept kind first.0 b len
+      → IsFrontPassed entries docs n kept (record { kind = kind; first = first; mark = b; len = len; boxed = front.boxed })
+  front_more front kind first b len o p done = record {
+    stored = subst (λ f. f ≤ length docs) o.first_is p.stored;
+    done = done;
+    boxed = subst (λ f. IsBoxed entries docs kind f front.boxed) o.first_is
+        (subst (λ k. IsBoxed entries docs k front.first.0 front.boxed) o.kind_is p.boxed);
+  }
 
   pub passed_put : (fronts : List Front) (k : ℕ) (front : Front) → ArePassed entries docs n kept fronts
       → IsFrontPassed entries docs n kept front → ArePassed entries docs n kept (slice_set fronts k front)
@@ -139,21 +187,39 @@ module _ (entries : List Entry) (docs : List Doc) (n : ℕ) (kept : List Hit) wh
   pub passed_empty : (fronts : List Front) → fronts ≡ [] → ArePassed entries docs n kept fronts
   passed_empty fronts e = record { each = subst (λ fs. Each (IsFrontPassed entries docs n kept) fs) (sym e) tt }
 
-  -- they stay passed as more hits are stored
+  -- a front stays passed as more hits are stored
+  front_stays : (hs : List Hit) (front : Front) → IsFrontPassed entries docs n kept front
+      → IsFrontPassed entries docs n (keeping n kept hs) front
+  front_stays hs front p = record {
+    stored = p.stored;
+    done = record {
+      done = λ key own begins.
+          each-map (IsDone entries n kept front.mark) (IsDone entries n (keeping n kept hs) front.mark)
+          (take front.len (docs_under key docs))
+          (λ d k. done_stays entries n kept front.mark d hs k)
+          (p.done.done key own begins);
+    };
+    boxed = p.boxed;
+  }
+
   pub passed_stay : (fronts : List Front) (hs : List Hit) → ArePassed entries docs n kept fronts
       → ArePassed entries docs n (keeping n kept hs) fronts
   passed_stay fronts hs a = record {
-    each = each-map (IsFrontPassed entries docs n kept) (IsFrontPassed entries docs n (keeping n kept hs)) fronts
-        (λ front p.
-        record {
-          done = λ key own begins.
-              each-map (IsDone entries n kept front.mark) (IsDone entries n (keeping n kept hs) front.mark)
-              (take front.len (docs_under key docs))
-              (λ d k. done_stays entries n kept front.mark d hs k)
-              (p.done key own begins);
-        })
-        a.each;
+    each = each-map (IsFrontPassed entries docs n kept) (IsFrontPassed entries docs n (keeping n kept hs)) fronts (front_stays hs) a.each;
   }
+
+  -- what a front says of the box stays for later runs of any query with this box
+  pub front_in_box : (query : QueryNum) (front : Front) → IsFrontPassed entries docs n kept front
+      → IsInBox entries docs (record { query = query; kind = front.kind; first = front.first; len = front.boxed })
+  front_in_box query front p = record {
+    stored = p.stored;
+    there = λ key own begins. (p.boxed.lists key own begins).there;
+    boxed = λ key own begins. (p.boxed.lists key own begins).boxed;
+  }
+
+  pub passed_in_box : (query : QueryNum) (fronts : List Front) (front : Front) → ArePassed entries docs n kept fronts → In front fronts
+      → IsInBox entries docs (record { query = query; kind = front.kind; first = front.first; len = front.boxed })
+  passed_in_box query fronts front a i = front_in_box query front (each_one (IsFrontPassed entries docs n kept) fronts front a.each i)
 
 pub passed_on : (entries : List Entry) (docs : List Doc) (n m : ℕ) (kept now : List Hit) (fronts : List Front) (hs : List Hit) → m ≡ n
     → now ≡ keeping n kept hs → ArePassed entries docs n kept fronts → ArePassed entries docs m now fronts
@@ -161,59 +227,150 @@ passed_on entries docs n m kept now fronts hs q e a =
     subst (λ k. ArePassed entries docs k now fronts) (sym q)
     (subst (λ hits. ArePassed entries docs n hits fronts) (sym e) (passed_stay entries docs n kept fronts hs a))
 
+-- fronts stay done as more hits are stored
+pub done_on : (s : Search) (into now : LeastHits) (fronts : Fronts) (hs : List Hit) → length now.places.items ≡ length into.places.items
+    → now.hits.items ≡ keeping (length into.places.items) into.hits.items hs → AreDone s into fronts → AreDone s now fronts
+done_on s into now fronts hs q e a = record {
+  passed = passed_on s.seen.now s.index.now.docs (length into.places.items) (length now.places.items) into.hits.items now.hits.items
+      fronts.fronts.items hs q e a.passed;
+  boxes = a.boxes;
+}
+
+-- what boxes hold, if they are the same
+pub boxes_alike : (entries : List Entry) (docs : List Doc) (boxes same : BoxFronts) → same ≡ boxes
+    → AreInBox boxes.query entries docs boxes.fronts.items → AreInBox same.query entries docs same.fronts.items
+boxes_alike entries docs boxes same e a = subst (λ (z : BoxFronts). AreInBox z.query entries docs z.fronts.items) (sym e) a
+
+-- queries of one number are one
+pub query_is : (a b : QueryNum) → a.0 ≡ b.0 → a ≡ b
+query_is a b e = ap numbered e
+  where
+    numbered : ℕ → QueryNum
+    numbered n = record { 0 = n }
+
+module _ (query : QueryNum) (entries : List Entry) (docs : List Doc) where
+  -- what a front of a box says of its list
+  pub box_known : (fronts : List BoxFront) (front : BoxFront) (kind : ListKind) (first : ℕ) → AreInBox query entries docs fronts
+      → In front fronts → IsBoxFrontOf query kind first front → IsBoxed entries docs kind first front.len
+  box_known fronts front kind first a i o =
+      let h = each_one (λ (f : BoxFront). f.query ≡ query → IsInBox entries docs f) fronts front a i o.query_is in
+      record {
+        lists = λ key own begins.
+            let k : kind_of key ≡ front.kind = own ∙ sym o.kind_is in
+            let f : BeginsWith front.first.0 (docs_under key docs) =
+            subst (λ z. BeginsWith z (docs_under key docs)) (sym o.first_is) begins in
+            record { there = h.there key k f; boxed = h.boxed key k f };
+      }
+
+  -- nothing is known of no documents
+  pub box_none : (kind : ListKind) (first : ℕ) → IsBoxed entries docs kind first 0
+  box_none kind first = record { lists = λ key own begins. record { there = omega arith; boxed = tt } }
+
+  -- no front is added
+  pub adds_none : (fronts : List BoxFront) → AddsFronts query entries docs fronts fronts
+  adds_none fronts =
+      each-map (λ front. In front fronts) (λ front. In front fronts ⊎ ((front.query ≡ query) × IsInBox entries docs front)) fronts
+      (λ front i. inl i) (each_in fronts)
+
+  -- fronts are added to those that were added before
+  pub adds_more : (old mid new : List BoxFront) → AddsFronts query entries docs old mid → AddsFronts query entries docs mid new
+      → AddsFronts query entries docs old new
+  adds_more old mid new a b =
+      each-map (λ front. In front mid ⊎ ((front.query ≡ query) × IsInBox entries docs front))
+      (λ front. In front old ⊎ ((front.query ≡ query) × IsInBox entries docs front)) new step b
+    where
+      step : (front : BoxFront) → In front mid ⊎ ((front.query ≡ query) × IsInBox entries docs front)
+          → In front old ⊎ ((front.query ≡ query) × IsInBox entries docs front)
+      step front (inl i) = each_one (λ front. In front old ⊎ ((front.query ≡ query) × IsInBox entries docs front)) mid front a i
+      step front (inr h) = inr h
+
+  -- a front of the box is added
+  pub adds_one : (added : BoxFront) (old new : List BoxFront) → AddsFront added old new → added.query ≡ query → IsInBox entries docs added
+      → AddsFronts query entries docs old new
+  adds_one added old new a q h =
+      each-map (λ front. In front old ⊎ (front ≡ added)) (λ front. In front old ⊎ ((front.query ≡ query) × IsInBox entries docs front)) new
+      step a
+    where
+      step : (front : BoxFront) → In front old ⊎ (front ≡ added) → In front old ⊎ ((front.query ≡ query) × IsInBox entries docs front)
+      step front (inl i) = inl i
+      step front (inr e) = inr (subst (λ (z : BoxFront). (z.query ≡ query) × IsInBox entries docs z) (sym e) (q, h))
+
+  -- the fronts with those that were added are in the box
+  pub added_in_box : (old new : List BoxFront) → AddsFronts query entries docs old new → AreInBox query entries docs old
+      → AreInBox query entries docs new
+  added_in_box old new a h =
+      each-map (λ front. In front old ⊎ ((front.query ≡ query) × IsInBox entries docs front))
+      (λ front. front.query ≡ query → IsInBox entries docs front) new step a
+    where
+      step : (front : BoxFront) → In front old ⊎ ((front.query ≡ query) × IsInBox entries docs front) → front.query ≡ query
+          → IsInBox entries docs front
+      step front (inl i) = each_one (λ front. front.query ≡ query → IsInBox entries docs front) old front h i
+      step front (inr k) = λ e. k.1
+
+-- what boxes hold that are as those to which fronts were added
+pub added_alike : (entries : List Entry) (docs : List Doc) (old mid new : BoxFronts) → new ≡ mid → mid.query ≡ old.query
+    → AddsFronts old.query entries docs old.fronts.items mid.fronts.items → AreInBox old.query entries docs old.fronts.items
+    → AreInBox new.query entries docs new.fronts.items
+added_alike entries docs old mid new e q a h =
+    boxes_alike entries docs mid new e
+    (subst (λ z. AreInBox z entries docs mid.fronts.items) (sym q)
+    (added_in_box old.query entries docs old.fronts.items mid.fronts.items a h))
+
+-- the fronts of a search are added to those that were added before it
+pub stored_more : (entries : List Entry) (docs : List Doc) (old mid same : BoxFronts) (new : List BoxFront) → same ≡ mid
+    → mid.query ≡ old.query → AddsFronts old.query entries docs old.fronts.items mid.fronts.items
+    → AddsFronts same.query entries docs same.fronts.items new → AddsFronts old.query entries docs old.fronts.items new
+stored_more entries docs old mid same new e q a b =
+    adds_more old.query entries docs old.fronts.items mid.fronts.items new a
+    (subst (λ z. AddsFronts z entries docs mid.fronts.items new) q
+    (subst (λ (z : BoxFronts). AddsFronts z.query entries docs z.fronts.items new) e b))
+
+-- boxes of this query, with these fronts
+module _ (query : QueryNum) (entries : List Entry) (docs : List Doc) (boxes : BoxFronts) (old : List BoxFront) (q : boxes.query ≡ query)
+    (f : boxes.fronts.items ≡ old) where
+  pub in_box_from : AreInBox query entries docs old → AreInBox boxes.query entries docs boxes.fronts.items
+  in_box_from a = subst (λ z. AreInBox z entries docs boxes.fronts.items) (sym q) (subst (AreInBox query entries docs) (sym f) a)
+
+  pub adds_from : (new : List BoxFront) → AddsFronts boxes.query entries docs boxes.fronts.items new → AddsFronts query entries docs old new
+  adds_from new a = subst (λ z. AddsFronts query entries docs z new) f (subst (λ z. AddsFronts z entries docs boxes.fronts.items new) q a)
+
+-- what a front of a search says of the box is stored, beside what was stored before
+pub box_stored : (entries : List Entry) (docs : List Doc) (n : ℕ) (kept : List Hit) (fronts : List Front) (front : Front)
+    (query : QueryNum) (old mid new : List BoxFront) → ArePassed entries docs n kept fronts → In front fronts
+    → AddsFronts query entries docs old mid
+    → AddsFront (record { query = query; kind = front.kind; first = front.first; len = front.boxed }) mid new
+    → AddsFronts query entries docs old new
+box_stored entries docs n kept fronts front query old mid new p i a b =
+    let boxed = passed_in_box entries docs n kept query fronts front p i in
+    adds_more query entries docs old mid new a (adds_one query entries docs _ mid new b refl boxed)
+
+-- one front stored in place of another, or behind all
+module _ (added : BoxFront) (old : List BoxFront) where
+  abbrev IsOld : BoxFront → Type 0
+  IsOld front = In front old ⊎ (front ≡ added)
+
+  all_old : Each IsOld old
+  all_old = each-map (λ front. In front old) IsOld old (λ front i. inl i) (each_in old)
+
+  pub added_none : (new : List BoxFront) → new ≡ old → AddsFront added old new
+  added_none new e = subst (Each IsOld) (sym e) all_old
+
+  pub added_at : (new : List BoxFront) (k : ℕ) → new ≡ slice_set old k added → AddsFront added old new
+  added_at new k e = subst (Each IsOld) (sym e) (each_put IsOld old k added all_old (inr refl))
+
+  pub added_behind : (new : List BoxFront) → new ≡ old ++ added ∷ [] → AddsFront added old new
+  added_behind new e = subst (Each IsOld) (sym e) (each-append IsOld old (added ∷ []) all_old (inr refl, tt))
+
+num_is : {x y : DocNum} → Some x ≡ Some y → x ≡ y
+num_is e = cc
+
+none_is : {x : DocNum} → Some x ≡ None → ⊥
+none_is e = cc
+
 -- the number of the document at a place
 pub number_at : (docs : List Doc) (place : ℕ) (num : DocNum) (d : Doc) → Some num ≡ doc_num (slice_get docs place)
     → slice_get docs place ≡ Some d → d.num ≡ num
 number_at docs place num d e g = sym (num_is (e ∙ ap doc_num g))
-  where
-    num_is : {x y : DocNum} → Some x ≡ Some y → x ≡ y
-    num_is q = cc
-
--- the front of one list is that of each list of its kind that begins with the same document
-pub passed_here : (entries : List Entry) (docs : List Doc) (n : ℕ) (kept : List Hit) (kind : ListKind) (key : ListKey) (list : List Doc)
-    (first : DocNum) (b : ℤ) (len : ℕ) → kind ≡ kind_of key → is_single_kind kind ≡ true → InPlace doc_number doc_arrival docs
-    → list ≡ docs_under key docs → Some first ≡ doc_num (slice_get list 0) → Each (IsDone entries n kept b) (take len list)
-    → IsPassed entries docs n kept kind first.0 b len
-passed_here entries docs n kept kind key list first b len own single stand is number done = record {
-  done = λ other k begins.
-      subst (λ ds. Each (IsDone entries n kept b) (take len ds)) (is ∙ same other (k ∙ own) begins) done;
-}
-  where
-    num_is : {x y : DocNum} → Some x ≡ Some y → x ≡ y
-    num_is e = cc
-
-    none_is : {x : DocNum} → Some x ≡ None → ⊥
-    none_is e = cc
-
-    meet : (other : ListKey) (ls os : List Doc) → kind_of other ≡ kind_of key → docs_under key docs ≡ ls → docs_under other docs ≡ os
-        → Some first ≡ doc_num (slice_get ls 0) → BeginsWith first.0 os → docs_under key docs ≡ docs_under other docs
-    meet other ls [] k l o n begins = absurd begins
-    meet other [] (e ∷ es) k l o n begins = absurd (none_is n)
-    meet other (d ∷ ds) (e ∷ es) k l o n begins =
-        lists_are_apart key other docs d e ds es (ap is_single_kind (sym own) ∙ single) k stand l o
-        (ap (λ (z : DocNum). z.0) (sym (num_is n)) ∙ sym begins)
-
-    same : (other : ListKey) → kind_of other ≡ kind_of key → BeginsWith first.0 (docs_under other docs)
-        → docs_under key docs ≡ docs_under other docs
-    same other k begins = meet other _ _ k refl refl (number ∙ ap (λ ds. doc_num (slice_get ds 0)) is) begins
-
--- what the fronts say of this list
-pub known_here : (entries : List Entry) (docs : List Doc) (n : ℕ) (kept : List Hit) (kind : ListKind) (key : ListKey) (list : List Doc)
-    (first : DocNum) (b : ℤ) (len : ℕ) → kind ≡ kind_of key → list ≡ docs_under key docs → Some first ≡ doc_num (slice_get list 0)
-    → IsPassed entries docs n kept kind first.0 b len → Each (IsDone entries n kept b) (take len list)
-known_here entries docs n kept kind key list first b len own is number p =
-    subst (λ ds. Each (IsDone entries n kept b) (take len ds)) (sym is)
-    (p.done key (sym own) (subst (BeginsWith first.0) is (begins list number)))
-  where
-    num_is : {x y : DocNum} → Some x ≡ Some y → x ≡ y
-    num_is e = cc
-
-    none_is : {x : DocNum} → Some x ≡ None → ⊥
-    none_is e = cc
-
-    begins : (ds : List Doc) → Some first ≡ doc_num (slice_get ds 0) → BeginsWith first.0 ds
-    begins [] e = absurd (none_is e)
-    begins (d ∷ ds) e = ap (λ (z : DocNum). z.0) (sym (num_is e))
 
 module _ {A : Type 0} (keeps : A → Bool) where
   filter_append : (xs ys : List A) → filter keeps (xs ++ ys) ≡ filter keeps xs ++ filter keeps ys
@@ -229,6 +386,78 @@ module _ {A : Type 0} (keeps : A → Bool) where
     | inl e ↦ rw e (h.0, each_kept P xs h.1)
     | inr e ↦ rw e (each_kept P xs h.1)
   ]
+
+-- the numbers of documents in their places are below one more than their count
+numbers_below : (n : ℕ) (docs : List Doc) → Numbered doc_number n docs → Each (λ d. d.num.0 < n + length docs) docs
+numbers_below n docs h = below n (n + length docs) docs h refl
+  where
+    below : (n m : ℕ) (docs : List Doc) → Numbered doc_number n docs → m ≡ n + length docs → Each (λ d. d.num.0 < m) docs
+    below n m [] h e = tt
+    below n m (d ∷ ds) h e = let k = h.0 in (omega (arith, k, e), below (n + 1) m ds h.1 (omega (arith, e)))
+
+first_below : (m : ℕ) (ds : List Doc) → Each (λ d. d.num.0 < m) ds → (first : DocNum) → Some first ≡ doc_num (slice_get ds 0) → first.0 < m
+first_below m [] h first e = absurd (none_is e)
+first_below m (d ∷ ds) h first e = subst (λ (z : DocNum). z.0 < m) (sym (num_is e)) h.0
+
+-- a posting list of a single kind, and the document that it begins with
+module _ (docs : List Doc) (kind : ListKind) (key : ListKey) (list : List Doc) (first : DocNum) (own : kind ≡ kind_of key)
+    (is : list ≡ docs_under key docs) (number : Some first ≡ doc_num (slice_get list 0)) where
+  begins_here : (ds : List Doc) → Some first ≡ doc_num (slice_get ds 0) → BeginsWith first.0 ds
+  begins_here [] e = absurd (none_is e)
+  begins_here (d ∷ ds) e = ap (λ (z : DocNum). z.0) (sym (num_is e))
+
+  -- what holds of each list of its kind that begins with this document holds of this one
+  of_this_list : (P : List Doc → Type 0) → ((key : ListKey) → kind_of key ≡ kind → BeginsWith first.0 (docs_under key docs)
+      → P (docs_under key docs)) → P list
+  of_this_list P h = subst P (sym is) (h key (sym own) (subst (BeginsWith first.0) is (begins_here list number)))
+
+  pub known_here : (entries : List Entry) (n : ℕ) (kept : List Hit) (b : ℤ) (len : ℕ) → IsPassed entries docs n kept kind first.0 b len
+      → Each (IsDone entries n kept b) (take len list)
+  known_here entries n kept b len p = of_this_list (λ ds. Each (IsDone entries n kept b) (take len ds)) p.done
+
+  pub boxed_known : (entries : List Entry) (len : ℕ) → IsBoxed entries docs kind first.0 len → AreBoxed entries len list
+  boxed_known entries len p = of_this_list (AreBoxed entries len) p.lists
+
+  module _ (single : is_single_kind kind ≡ true) (stand : InPlace doc_number doc_arrival docs) where
+    meet : (other : ListKey) (ls os : List Doc) → kind_of other ≡ kind_of key → docs_under key docs ≡ ls → docs_under other docs ≡ os
+        → Some first ≡ doc_num (slice_get ls 0) → BeginsWith first.0 os → docs_under key docs ≡ docs_under other docs
+    meet other ls [] k l o n begins = absurd begins
+    meet other [] (e ∷ es) k l o n begins = absurd (none_is n)
+    meet other (d ∷ ds) (e ∷ es) k l o n begins =
+        lists_are_apart key other docs d e ds es (ap is_single_kind (sym own) ∙ single) k stand l o
+        (ap (λ (z : DocNum). z.0) (sym (num_is n)) ∙ sym begins)
+
+    same_list : (other : ListKey) → kind_of other ≡ kind_of key → BeginsWith first.0 (docs_under other docs)
+        → docs_under key docs ≡ docs_under other docs
+    same_list other k begins = meet other _ _ k refl refl (number ∙ ap (λ ds. doc_num (slice_get ds 0)) is) begins
+
+    -- what holds of this list holds of each list of its kind that begins with the same document
+    of_each_list : (P : List Doc → Type 0) → P list → (other : ListKey) → kind_of other ≡ kind
+        → BeginsWith first.0 (docs_under other docs) → P (docs_under other docs)
+    of_each_list P h other k begins = subst P (is ∙ same_list other (k ∙ own) begins) h
+
+    pub passed_here : (entries : List Entry) (n : ℕ) (kept : List Hit) (b : ℤ) (len : ℕ) → Each (IsDone entries n kept b) (take len list)
+        → IsPassed entries docs n kept kind first.0 b len
+    passed_here entries n kept b len h = record { done = of_each_list (λ ds. Each (IsDone entries n kept b) (take len ds)) h }
+
+    pub boxed_here : (entries : List Entry) (len : ℕ) → AreBoxed entries len list → IsBoxed entries docs kind first.0 len
+    boxed_here entries len h = record { lists = of_each_list (AreBoxed entries len) h }
+
+    -- its first document is stored
+    stored_here : first.0 ≤ length docs
+    stored_here =
+        let all = each_kept (is_under_key key) (λ (d : Doc). d.num.0 < 1 + length docs) docs (numbers_below 1 docs stand.numbered) in
+        let l = first_below (1 + length docs) list (subst (Each (λ (d : Doc). d.num.0 < 1 + length docs)) (sym is) all) first number in
+        omega (arith, l)
+
+    -- as much of its front as the box holds
+    pub box_front_passed : (entries : List Entry) (n : ℕ) (kept : List Hit) (b : ℤ) (len : ℕ) → AreBoxed entries len list
+        → IsFrontPassed entries docs n kept (record { kind = kind; first = first; mark = b; len = len; boxed = len })
+    box_front_passed entries n kept b len h = record {
+      stored = stored_here;
+      done = boxed_passed entries docs n kept kind first.0 b len (boxed_here entries len h);
+      boxed = boxed_here entries len h;
+    }
 
 -- documents behind a front that is done
 pub front_left : (s : Search) (into : LeastHits) (b : ℤ) (keeps : Doc → Bool) (docs : List Doc) (n : ℕ) (left : List Doc)

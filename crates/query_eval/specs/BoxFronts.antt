@@ -1,10 +1,11 @@
 -- Fronts of posting lists that the boxes of queries hold.
-use Rattle.std.specs.Prelude.{◌≡◌, ◌≤◌, ◌⊎◌, List, true, length, take}
+use Rattle.std.specs.Prelude.{◌≡◌, ◌≤◌, ◌⊎◌, ℕ, List, true, length, take}
 use Rattle.tap_base.specs.declared.numbers.QueryNum.{QueryNum}
 use Rattle.tap_rows.specs.declared.rows.Doc.{Doc}
 use Rattle.tap_rows.specs.declared.results.Entry.{Entry}
 use Rattle.tap_rows.specs.Kept.{Each, In}
 use Rattle.little_box.specs.Boxes.{is_in}
+use Rattle.probe_eval.specs.declared.list_kind.ListKind.{ListKind}
 use Rattle.probe_eval.specs.SingleLists.{ListKey, kind_of, docs_under}
 use Rattle.query_eval.specs.declared.box_front.BoxFront.{BoxFront}
 use Rattle.query_eval.specs.Fronts.{BeginsWith}
@@ -26,3 +27,22 @@ AreInBox query entries docs fronts = Each (λ front. front.query ≡ query → I
 abbrev pub AddsFronts : QueryNum → List Entry → List Doc → List BoxFront → List BoxFront → Type 0
 AddsFronts query entries docs old new =
     Each (λ front. In front old ⊎ ((front.query ≡ query) × IsInBox entries docs front)) new
+
+-- each front is one of those before, or this one
+abbrev pub AddsFront : BoxFront → List BoxFront → List BoxFront → Type 0
+AddsFront added old new = Each (λ front. In front old ⊎ (front ≡ added)) new
+
+-- that many documents at the front of a list are there and in the box
+pub record AreBoxed (entries : List Entry) (len : ℕ) (docs : List Doc) : Type 0 where
+  pub there : len ≤ length docs
+  pub boxed : Each (λ d. is_in d.num.0 entries ≡ true) (take len docs)
+
+-- so many are of each posting list of this kind that begins with this document
+pub record IsBoxed (entries : List Entry) (docs : List Doc) (kind : ListKind) (first len : ℕ) : Type 0 where
+  pub lists : (key : ListKey) → kind_of key ≡ kind → BeginsWith first (docs_under key docs) → AreBoxed entries len (docs_under key docs)
+
+-- the front is that of this query and of the list of this kind that begins with this document
+pub record IsBoxFrontOf (query : QueryNum) (kind : ListKind) (first : ℕ) (front : BoxFront) : Type 0 where
+  pub query_is : front.query ≡ query
+  pub kind_is : front.kind ≡ kind
+  pub first_is : front.first.0 ≡ first

@@ -11,8 +11,6 @@ use Rattle.probe_eval.specs.declared.search.Search.{Search}
 use Rattle.probe_eval.specs.Nested.{hit_if, new_doc}
 use Rattle.probe_eval.specs.SingleLists.{ListKey, kind_of, docs_under}
 use Rattle.query_eval.specs.declared.least_hits.LeastHits.{LeastHits}
-use Rattle.query_eval.specs.declared.fronts.Front.{Front}
-use Rattle.query_eval.specs.declared.fronts.Fronts.{Fronts}
 use Rattle.query_eval.specs.Lowest.{keeping}
 
 -- no hit of the document with this mark or a later one changes the stored hits
@@ -29,24 +27,6 @@ pub record IsPassed (entries : List Entry) (docs : List Doc) (n : ℕ) (kept : L
     Type 0 where
   pub done : (key : ListKey) → kind_of key ≡ kind → BeginsWith first (docs_under key docs)
       → Each (IsDone entries n kept b) (take len (docs_under key docs))
-
--- as `IsPassed`, as a search remembers it; AreDone: the documents of each front are done, by the rows and deliveries of a search
-abbrev pub IsFrontPassed : List Entry → List Doc → ℕ → List Hit → Front → Type 0
-IsFrontPassed entries docs n kept front = IsPassed entries docs n kept front.kind front.first front.mark front.len
-
--- the documents of each front are done
-pub record ArePassed (entries : List Entry) (docs : List Doc) (n : ℕ) (kept : List Hit) (fronts : List Front) : Type 0 where
-  pub each : Each (IsFrontPassed entries docs n kept) fronts
-
--- the same over the rows and deliveries of a search
-abbrev pub AreDone : Search → LeastHits → Fronts → Type 0
-AreDone s into fronts = ArePassed s.seen.now s.index.now.docs (length into.places.items) into.hits.items fronts.fronts.items
-
--- the front is that of the list of this kind that begins with this document, and holds at this mark
-pub record IsFrontOf (kind : ListKind) (first : ℕ) (b : ℤ) (front : Front) : Type 0 where
-  pub kind_is : front.kind ≡ kind
-  pub first_is : front.first ≡ first
-  pub by : front.mark ≤ℤ b
 
 -- these documents are done
 abbrev pub AreDoneDocs : Search → LeastHits → ℤ → List Doc → Type 0

@@ -1,14 +1,19 @@
 //! The rows of a level behind the front of their posting list.
 
-ghost use Rattle.std.specs.Prelude.{◌≡◌, true, length, filter, take, slice_get, Some};
+ghost use Rattle.std.specs.Prelude.{◌≡◌, ℕ, List, true, length, filter, take, slice_get, Some};
 ghost use Rattle.tap_rows.specs.declared.rows.Doc.{Doc};
+ghost use Rattle.tap_rows.specs.declared.results.Hit.{Hit};
+ghost use Rattle.little_box.specs.Boxes.{is_in};
+ghost use Rattle.row_index.specs.Orders.{doc_num};
 ghost use Rattle.tql_core.specs.Row.{OfDoc};
 ghost use Rattle.access_plan.specs.Views.{option_access, reach_at};
 ghost use Rattle.probe_eval.specs.Nexts.{IsSole};
 ghost use Rattle.probe_eval.specs.SingleLists.{IsSingleList};
 ghost use Rattle.probe_eval.specs.StepRows.{passes_step, next_rows};
 ghost use Rattle.query_eval.specs.Placed.{CanStoreHits};
-ghost use Rattle.query_eval.specs.Fronts.{IsDone, AreDone, AreDoneDocs, AreDocsBehind, AreBehind};
+ghost use Rattle.query_eval.specs.Fronts.{IsDone, AreDoneDocs, AreDocsBehind, AreBehind};
+ghost use Rattle.query_eval.specs.BoxFronts.{AreInBox, AreBoxed};
+ghost use Rattle.query_eval.specs.RunFronts.{IsFrontOf, IsFrontPassed, ArePassed, AreDone};
 
 use crate::fronts::{Front, Fronts, LONG};
 use crate::least_hits::LeastHits;
@@ -73,6 +78,88 @@ fn done_from(search: &Search, docs: &PostingList, len: usize, mark: i64, into: &
     done
 }
 
+// Returns whether the list has a document at this place, and it is in the box.
+fn is_boxed_at(search: &Search, docs: &PostingList, place: usize) -> bool
+    ensures { result ≡ true → (d : Doc) → slice_get docs.now place ≡ Some d
+        → is_in d.num.0 search.now.seen.now ≡ true }
+{
+    match docs.number(place) {
+        None => false,
+        Some(num) => search.seen.has(num),
+    }
+}
+
+// Returns how many documents at the front of the list are in the box, of which the first `len` are
+// known to be.
+fn boxed_from(search: &Search, docs: &PostingList, len: usize) -> usize
+    requires { AreBoxed search.now.seen.now len docs.now }
+    ensures { AreBoxed search.now.seen.now result docs.now }
+{
+    let count = docs.len();
+    let mut boxed = len;
+    'walk: while boxed < count {
+        if !is_boxed_at(search, docs, boxed) {
+            return boxed;
+        }
+        boxed += 1;
+    }
+    boxed
+}
+
+// Returns the front of the list that begins with this document, as far as the box holds it. What
+// earlier runs found of it is passed over.
+fn box_front<'a>(
+    search: &Search<'a>,
+    found: &SingleList<'a>,
+    first: DocNum,
+    mark: i64,
+    fronts: &Fronts,
+) -> Front
+    requires list { IsSingleList search.now.index.now found.now }
+    requires first { Some first ≡ doc_num (slice_get found.now.docs 0) }
+    requires boxes { AreInBox fronts.now.boxes.query search.now.seen.now search.now.index.now.docs
+        fronts.now.boxes.fronts.items }
+    ensures own { IsFrontOf found.now.kind first.0 result }
+    ensures passed { (n : ℕ) (kept : List Hit)
+        → IsFrontPassed search.now.seen.now search.now.index.now.docs n kept result }
+{
+    // Brings into scope that the documents' numbers are their places.
+    let _docs = search.index.docs();
+    let known = fronts.boxes.boxed(found.kind, first);
+    let boxed = boxed_from(search, &found.docs, known);
+    Front {
+        kind: found.kind,
+        first,
+        mark,
+        len: boxed,
+        boxed,
+    }
+}
+
+// Returns what is known of the front of the list that begins with this document: what this run
+// found, or what the box holds.
+fn known_front<'a>(
+    search: &Search<'a>,
+    found: &SingleList<'a>,
+    first: DocNum,
+    mark: i64,
+    fronts: &Fronts,
+) -> Front
+    requires list { IsSingleList search.now.index.now found.now }
+    requires first { Some first ≡ doc_num (slice_get found.now.docs 0) }
+    requires boxes { AreInBox fronts.now.boxes.query search.now.seen.now search.now.index.now.docs
+        fronts.now.boxes.fronts.items }
+    ensures own { IsFrontOf found.now.kind first.0 result }
+    ensures passed { (n : ℕ) (kept : List Hit)
+        → ArePassed search.now.seen.now search.now.index.now.docs n kept fronts.now.fronts.items
+        → IsFrontPassed search.now.seen.now search.now.index.now.docs n kept result }
+{
+    match fronts.known(found.kind, first) {
+        Some(front) => front,
+        None => box_front(search, found, first, mark, fronts),
+    }
+}
+
 // Returns how many documents at the front of a long list are done, and stores that. Of a short one
 // it says none.
 fn done_front<'a>(
@@ -87,6 +174,7 @@ fn done_front<'a>(
     requires fronts { AreDone search.now into.now fronts.old }
     ensures done { AreDoneDocs search.now into.now mark (take result found.now.docs) }
     ensures fronts { AreDone search.now into.now fronts.new }
+    ensures boxes { fronts.new.boxes ≡ fronts.old.boxes }
 {
     // Brings into scope that the documents' numbers are their places.
     let _docs = search.index.docs();
@@ -96,13 +184,14 @@ fn done_front<'a>(
     match found.docs.number(0) {
         None => 0,
         Some(first) => {
-            let known = fronts.done(found.kind, first, mark);
-            let len = done_from(search, &found.docs, known, mark, into);
+            let known = known_front(search, found, first, mark, fronts);
+            let len = done_from(search, &found.docs, known.done_at(mark), mark, into);
             fronts.put(Front {
                 kind: found.kind,
-                first: first.0,
+                first,
                 mark,
                 len,
+                boxed: known.boxed,
             });
             len
         }
@@ -127,6 +216,7 @@ fn docs_behind<'a>(
         (filter (λ d. passes_step var mark env.now search.now.probe.now.path (OfDoc d))
         found.entry.docs) result }
     ensures fronts { AreDone search.now into.now fronts.new }
+    ensures boxes { fronts.new.boxes ≡ fronts.old.boxes }
 {
     let len = done_front(search, &found, mark, into, fronts);
     let path = search.probe.path.as_slice();
@@ -154,6 +244,7 @@ pub(crate) fn open_rows<'a>(
         (next_rows search.now.index.now search.now.probe.now.path mark
         env.now (reach_at reach.entry)) result }
     ensures fronts { AreDone search.now into.now fronts.new }
+    ensures boxes { fronts.new.boxes ≡ fronts.old.boxes }
 {
     let path = search.probe.path.as_slice();
     if reach.var.0 != 0 {

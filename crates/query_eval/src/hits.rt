@@ -12,7 +12,8 @@ use std::marker::Model;
 use tap_base::{Memory, Rows};
 use tap_rows::Hit;
 
-/// A list of hits, with room for a hit of each document up to a number.
+/// A list of hits, with room for a hit of each document up to a number; and what is known of the
+/// boxes of queries, which stays from run to run.
 pub struct Hits {
     pub(crate) kept: LeastHits,
     pub(crate) fronts: Fronts,

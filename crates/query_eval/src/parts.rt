@@ -3,7 +3,7 @@
 ghost use Rattle.std.specs.Prelude.{◌≡◌, ◌+◌, ◌≤◌, [], Some, length, option_to_list};
 ghost use Rattle.time_marks.specs.Seeks.{CanSeek};
 ghost use Rattle.query_eval.specs.Placed.{CanStoreHits, Stores};
-ghost use Rattle.query_eval.specs.Fronts.{AreDone};
+ghost use Rattle.query_eval.specs.RunFronts.{AreDone};
 ghost use Rattle.probe_eval.specs.Nexts.{IsNearestIfKnown};
 ghost use Rattle.probe_eval.specs.Searches.{searched, CanSearch};
 ghost use Rattle.probe_eval.specs.Drivers.{seek_var, hits_at, seek_hits, cost_at};
@@ -43,6 +43,7 @@ fn collect_at<'a, L: Ledger>(
     ensures ready { CanStoreHits into.new }
     ensures places { length into.new.places.items ≡ length into.old.places.items }
     ensures fronts { AreDone search.now into.new fronts.new }
+    ensures boxes { fronts.new.boxes ≡ fronts.old.boxes }
     ensures steps { steps.new ≤ steps.old
         + cost_at (is_settled search.now.seen.now into.old.hits.items) search.now.index.now w
         (searched search.now) order.now env.now }
@@ -75,6 +76,7 @@ fn collect_driven<'a, L: Ledger>(
     ensures ready { CanStoreHits into.new }
     ensures places { length into.new.places.items ≡ length into.old.places.items }
     ensures fronts { AreDone search.now into.new fronts.new }
+    ensures boxes { fronts.new.boxes ≡ fronts.old.boxes }
     ensures steps { steps.new ≤ steps.old + turn_cost (keeping (length into.old.places.items))
         search.now.seen.now search.now.index.now w
         (searched search.now) order.now into.old.hits.items seek (Some var) }
@@ -119,6 +121,7 @@ fn collect_walked<'a, L: Ledger>(
     ensures ready { CanStoreHits into.new }
     ensures places { length into.new.places.items ≡ length into.old.places.items }
     ensures fronts { AreDone search.now into.new fronts.new }
+    ensures boxes { fronts.new.boxes ≡ fronts.old.boxes }
     ensures steps { steps.new ≤ steps.old + turn_cost (keeping (length into.old.places.items))
         search.now.seen.now search.now.index.now w
         (searched search.now) order.now into.old.hits.items seek (Some var) }
@@ -152,6 +155,7 @@ pub(crate) fn collect_part<'a, L: Ledger>(
     ensures ready { CanStoreHits into.new }
     ensures places { length into.new.places.items ≡ length into.old.places.items }
     ensures fronts { AreDone search.now into.new fronts.new }
+    ensures boxes { fronts.new.boxes ≡ fronts.old.boxes }
     ensures steps { steps.new ≤ steps.old + turn_cost (keeping (length into.old.places.items))
         search.now.seen.now search.now.index.now w
         (searched search.now) order.now into.old.hits.items seek (seek_var seek) }

@@ -21,7 +21,7 @@ use Rattle.probe_eval.proofs.HitSteps.{doc_hits, note_hits, doc_cost}
 use Rattle.probe_eval.proofs.LevelLaws.{level_steps}
 use Rattle.query_eval.specs.Fronts.{AreBehind}
 use Rattle.query_eval.proofs.HitSteps.{level_hits}
-use Rattle.query_eval.proofs.FrontLaws.{behind_hits, behind_cost, passed_on}
+use Rattle.query_eval.proofs.FrontLaws.{behind_hits, behind_cost, done_on}
 use Rattle.probe_eval.specs.Searches.{searched}
 use Rattle.query_eval.proofs.nested.+collect_once.Goals as goal
 
@@ -51,6 +51,7 @@ loop-row-init g t c =
       ready = c.requires.collect.ready;
       places = refl;
       fronts = c.open_rows-rows.ensures.fronts;
+      boxes = c.open_rows-rows.ensures.boxes;
       steps = λ passed a.
           let walk = level_steps passed T p mark c.args.env.now level all _ _ refl (s passed) in
           let fewer = behind_cost (λ row. 1 + work_over passed T p mark level.sure level.rest.now (bind level.reach.var row c.args.env.now))
@@ -82,6 +83,7 @@ loop-row-preserved g t c =
       ready = c.collect_once.ensures.ready;
       places = c.collect_once.ensures.places ∙ c.loop-row.invariant.places;
       fronts = c.collect_once.ensures.fronts;
+      boxes = c.collect_once.ensures.boxes ∙ c.loop-row.invariant.boxes;
       steps = λ passed a. cost_step _ _ _ _ _ _ _ (row_of c.in-Some-next.row) (c.loop-row.invariant.steps passed a) e s
           (k passed (λ d y. c.loop-row.invariant.settled d (a d y)));
       settled = λ d y. settled_stays c.args.search.now.seen.now (length c.loop-row.into.places.items) c.loop-row.into.hits.items
@@ -108,8 +110,7 @@ returns-in-Some-OfDoc-clause-fronts g t c =
     let hits = option_to_list (hit_if (holds_here c.args.search.now.index.now p c.args.mark c.args.order.now c.args.env.now)
     c.args.mark (new_doc c.args.search.now.seen.now c.in-Some-OfDoc.doc.now)) in
     let h : c.collect_pair.new.into.hits.items ≡ keeping n c.args.into.now.hits.items hits = search rules in
-    passed_on c.args.search.now.seen.now c.args.search.now.index.now.docs n (length c.collect_pair.new.into.places.items)
-    c.args.into.now.hits.items c.collect_pair.new.into.hits.items c.args.fronts.now.fronts.items hits c.collect_pair.ensures.places h
+    done_on c.args.search.now c.args.into.now c.collect_pair.new.into c.args.fronts.now hits c.collect_pair.ensures.places h
     c.requires.fronts
 
 pub returns-in-Some-OfDoc-clause-steps : goal.returns-in-Some-OfDoc-clause-steps

@@ -8,7 +8,7 @@ use Rattle.query_eval.specs.Lowest.{keeping}
 use Rattle.query_eval.specs.Placed.{CanStoreHits}
 use Rattle.query_eval.specs.Collecting.{AreSettled}
 use Rattle.query_eval.specs.Driven.{is_settled}
-use Rattle.query_eval.specs.Fronts.{AreDone}
+use Rattle.query_eval.specs.RunFronts.{AreDone}
 use Rattle.probe_eval.specs.Work.{total}
 use Rattle.probe_eval.specs.Nested.{hits_over, work_over}
 use Rattle.probe_eval.specs.Searches.{searched}
@@ -23,6 +23,7 @@ invariant-loop-row g l = record {
   ready : CanStoreHits l.into;
   places : length l.into.places.items ≡ length l.fn.into.places.items;
   fronts : AreDone l.fn.search l.into l.fronts;
+  boxes : l.fronts.boxes ≡ l.fn.fronts.boxes;
   steps : (passed : Doc → Bool) → AreSettled l.fn.search l.fn.into l.fn.mark passed → l.steps + total (λ row. 1 + work_over passed
       l.fn.search.index.now (searched l.fn.search) l.fn.mark l.level.sure l.level.rest.now (bind l.level.reach.var row l.fn.env)) l.rows
       ≤ l.fn.steps + work_over passed l.fn.search.index.now (searched l.fn.search) l.fn.mark l.fn.sure l.fn.order l.fn.env;

@@ -32,6 +32,7 @@ loop-row-preserved g c =
       ready = c.collect_at.ensures.ready;
       places = c.collect_at.ensures.places ∙ c.loop-row.invariant.places;
       fronts = c.collect_at.ensures.fronts;
+      boxes = c.collect_at.ensures.boxes ∙ c.loop-row.invariant.boxes;
       steps = turn_step (length c.loop-row.into.places.items) (length c.collect_at.new.into.places.items)
           (λ n. row_cost (keeping n) c.args.search.now.seen.now c.args.search.now.index.now c.args.w p c.args.order.now c.args.var)
           (λ row. hits_at c.args.search.now.seen.now c.args.search.now.index.now c.args.w p c.args.order.now (bind c.args.var row [])) _ _ _

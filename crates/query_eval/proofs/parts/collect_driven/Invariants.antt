@@ -5,7 +5,7 @@ use Rattle.tql_core.specs.Values.{bind}
 use Rattle.probe_eval.specs.Nexts.{IsNearestIfKnown}
 use Rattle.query_eval.specs.Lowest.{keeping}
 use Rattle.query_eval.specs.Placed.{CanStoreHits}
-use Rattle.query_eval.specs.Fronts.{AreDone}
+use Rattle.query_eval.specs.RunFronts.{AreDone}
 use Rattle.query_eval.specs.Driven.{total_in_turn, row_cost, turn_cost}
 use Rattle.probe_eval.specs.Drivers.{hits_at, walked}
 use Rattle.probe_eval.specs.Searches.{searched}
@@ -21,6 +21,7 @@ invariant-loop-row g l = record {
   ready : CanStoreHits l.into;
   places : length l.into.places.items ≡ length l.fn.into.places.items;
   fronts : AreDone l.fn.search l.into l.fronts;
+  boxes : l.fronts.boxes ≡ l.fn.fronts.boxes;
   steps : l.steps + total_in_turn (keeping (length l.into.places.items)) (row_cost (keeping (length l.into.places.items))
       l.fn.search.seen.now l.fn.search.index.now l.fn.w (searched l.fn.search) l.fn.order l.fn.var)
       (λ row. hits_at l.fn.search.seen.now l.fn.search.index.now l.fn.w (searched l.fn.search) l.fn.order (bind l.fn.var row []))

@@ -7,7 +7,7 @@ use Rattle.probe_eval.specs.Listed.{goes_by_list, listed_hits}
 use Rattle.probe_eval.proofs.ListedRows.{listed_rows}
 use Rattle.query_eval.specs.Lowest.{keeping}
 use Rattle.query_eval.proofs.TurnCosts.{rows_in_turn}
-use Rattle.query_eval.proofs.FrontLaws.{passed_on}
+use Rattle.query_eval.proofs.FrontLaws.{done_on}
 use Rattle.probe_eval.specs.Searches.{searched}
 use Rattle.query_eval.proofs.parts.collect_walked.Goals as goal
 
@@ -40,5 +40,4 @@ returns-then-goes_by_list-clause-fronts g c =
     let n = length c.args.into.now.places.items in
     let hits = flat_map (listed_hits s.seen.now c.args.w p c.args.var) (walked s.index.now c.args.w p c.args.seek c.args.var) in
     let h : c.collect_listed.new.into.hits.items ≡ keeping n c.args.into.now.hits.items hits = search rules in
-    passed_on s.seen.now s.index.now.docs n (length c.collect_listed.new.into.places.items) c.args.into.now.hits.items
-    c.collect_listed.new.into.hits.items c.args.fronts.now.fronts.items hits c.collect_listed.ensures.places h c.requires.fronts
+    done_on s c.args.into.now c.collect_listed.new.into c.args.fronts.now hits c.collect_listed.ensures.places h c.requires.fronts

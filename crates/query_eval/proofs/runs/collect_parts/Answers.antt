@@ -12,7 +12,8 @@ use Rattle.probe_eval.proofs.Founds.{part_fits}
 use Rattle.probe_eval.proofs.Steps.{get_in}
 use Rattle.probe_eval.proofs.Steps.{rest_at, item_at}
 use Rattle.query_eval.proofs.Steps.{hits_step}
-use Rattle.query_eval.proofs.FrontLaws.{passed_empty}
+use Rattle.query_eval.specs.declared.box_fronts.BoxFronts.{BoxFronts}
+use Rattle.query_eval.proofs.FrontLaws.{passed_empty, adds_none, added_alike, stored_more}
 use Rattle.query_eval.proofs.runs.collect_parts.Goals as goal
 
 pub collect_part-requires-clause-search : goal.collect_part-requires-clause-search
@@ -31,7 +32,14 @@ collect_part-requires-clause-search g c =
     }
 
 pub collect_part-requires-clause-fronts : goal.collect_part-requires-clause-fronts
-collect_part-requires-clause-fronts g c = passed_empty _ _ _ _ _ c.clear.ensures
+collect_part-requires-clause-fronts g c = record {
+  passed = passed_empty _ _ _ _ _ c.clear.ensures.fronts;
+  boxes = added_alike _ _ c.args.fronts.now.boxes c.loop-place.fronts.boxes c.clear.new.self.boxes c.clear.ensures.boxes
+      c.loop-place.invariant.query c.loop-place.invariant.fronts c.requires.fronts;
+}
+
+pub loop-place-init-clause-fronts : goal.loop-place-init-clause-fronts
+loop-place-init-clause-fronts g c = adds_none _ _ _ c.args.fronts.now.boxes.fronts.items
 
 pub loop-place-preserved : goal.loop-place-preserved
 loop-place-preserved g c =
@@ -59,10 +67,15 @@ loop-place-preserved g c =
     ≤ c.loop-place.steps + turn_cost (keeping n) entries T w p z c.loop-place.into.hits.items part.seek (seek_var part.seek)) o k in
     let i = c.loop-place.invariant.more in
     let m = c.collect_part.ensures.more in
+    let same = ap (λ (z : BoxFronts). z.query) (c.collect_part.ensures.boxes ∙ c.clear.ensures.boxes) in
     record {
       hits = hits_step (part_hits entries T w q.pool) _ _ _ _ _ _ _ part c.loop-place.invariant.hits e h' c.collect_part.ensures.places;
       ready = c.collect_part.ensures.ready;
       places = c.collect_part.ensures.places ∙ c.loop-place.invariant.places;
+      query = c.store.ensures.query ∙ same ∙ c.loop-place.invariant.query;
+      fronts = stored_more entries T.docs c.args.fronts.now.boxes c.loop-place.fronts.boxes c.collect_part.new.fronts.boxes
+          c.store.new.self.boxes.fronts.items (c.collect_part.ensures.boxes ∙ c.clear.ensures.boxes) c.loop-place.invariant.query
+          c.loop-place.invariant.fronts (c.store.ensures.fronts entries T.docs _ _ c.collect_part.ensures.fronts.passed);
       steps = turn_step n (length c.collect_part.new.into.places.items) (λ n. part_turn (keeping n) entries T w q.pool)
           (part_hits entries T w q.pool) _ _ _ _ _ _ _ part c.loop-place.invariant.steps e k' h' c.collect_part.ensures.places;
       more = omega (arith, i, m);

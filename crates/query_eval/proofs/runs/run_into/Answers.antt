@@ -4,6 +4,7 @@ use Rattle.probe_eval.specs.Nested.{was_seen}
 use Rattle.probe_eval.specs.Runs.{query_hits}
 use Rattle.time_marks.specs.Views.{ranged_probes}
 use Rattle.probe_eval.proofs.Founds.{query_found}
+use Rattle.query_eval.proofs.FrontLaws.{in_box_from, adds_from}
 use Rattle.query_eval.proofs.Plans.{hits_kept, placed_fit, taken_run, taken_quiet, taken_due}
 use Rattle.query_eval.proofs.runs.run_into.Goals as goal
 
@@ -39,3 +40,11 @@ returns-clause-quiet g c = taken_quiet c.args.plan.now.query c.requires.run.prob
 pub returns-clause-due : goal.returns-clause-due
 returns-clause-due g c =
     taken_due c.args.plan.now.query c.requires.run.probes c.args.seen.now c.args.index.now c.args.w _ _ (returns-clause-steps g c)
+
+pub collect_parts-requires-clause-fronts : goal.collect_parts-requires-clause-fronts
+collect_parts-requires-clause-fronts g c = in_box_from c.args.query c.args.seen.now c.args.index.now.docs c.begin.new.self.boxes
+    c.args.into.now.fronts c.begin.ensures.query c.begin.ensures.boxes c.requires.fronts
+
+pub returns-clause-fronts : goal.returns-clause-fronts
+returns-clause-fronts g c = adds_from c.args.query c.args.seen.now c.args.index.now.docs c.begin.new.self.boxes c.args.into.now.fronts
+    c.begin.ensures.query c.begin.ensures.boxes _ c.collect_parts.ensures.fronts
