@@ -1,7 +1,7 @@
 -- Fronts of posting lists, and what a walk behind them leaves out.
 use Rattle.std.proofs.Common.{◌≡◌, ◌∙◌, ◌+◌, ◌≤◌, ◌<◌, ℕ, ℤ, zero, suc, Bool, true, Option, Some, None, List, [], ◌∷◌, ◌++◌, map, take}
 use Rattle.std.proofs.Common.{drop, refl, sym, ap, subst, inl, inr, arith}
-use Rattle.std.specs.Prelude.{◌≤ℤ◌, ◌⊎◌, IfSome, filter, length, slice_get, slice_set, option_to_list}
+use Rattle.std.specs.Prelude.{◌≤ℤ◌, ◌⊎◌, IfSome, filter, length, slice_get, slice_set, slice_index_or, option_to_list}
 use Rattle.std.specs.List.{flat_map}
 use Rattle.std.proofs.lemmas.Int.{ints}
 use Rattle.std.proofs.lemmas.Bool.{cases_Bool, false≢true}
@@ -73,6 +73,15 @@ module _ {A : Type 0} where
   got_in [] k (Some x) e = absurd cc
   got_in (y ∷ ys) zero (Some x) e = inl (some_is e)
   got_in (y ∷ ys) (suc k) (Some x) e = inr (got_in ys k (Some x) e)
+
+  -- an item at a place that there is is one of the items
+  pub item_in : (xs : List A) (k : ℕ) (d : A) → k < length xs → In (slice_index_or xs k d) xs
+  item_in [] k d l = absurd (omega (arith, l))
+  item_in (y ∷ ys) zero d l = inl refl
+  item_in (y ∷ ys) (suc k) d l = inr (item_in ys k d (less l))
+    where
+      less : suc k < suc (length ys) → k < length ys
+      less h = omega (arith, h)
 
   pub each_one : (P : A → Type 0) (xs : List A) (x : A) → Each P xs → In x xs → P x
   each_one P [] x h i = absurd i

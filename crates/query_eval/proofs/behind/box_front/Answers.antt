@@ -1,4 +1,4 @@
-use Rattle.std.proofs.Common.{rules, ◌≡◌, to_z, of_z, w64}
+use Rattle.std.proofs.Common.{rules, to_z, of_z, w64}
 use Rattle.query_eval.proofs.FrontLaws.{boxed_known, box_front_passed}
 use Rattle.query_eval.proofs.behind.box_front.Goals as goal
 

@@ -1,8 +1,6 @@
 use Rattle.std.proofs.Common.{rules, ◌≡◌, Some, length, to_z, of_z, w64}
 use Rattle.std.specs.Prelude.{slice_get}
 use Rattle.row_index.specs.Orders.{doc_num}
-use Rattle.query_eval.specs.Fronts.{IsPassed}
-use Rattle.query_eval.specs.RunFronts.{IsFrontPassed}
 use Rattle.query_eval.proofs.FrontLaws.{known_here, passed_here, passed_of, front_more, boxes_alike}
 use Rattle.query_eval.proofs.behind.done_front.Goals as goal
 

@@ -8,3 +8,6 @@ pub returns-in-Some-clause-passed : goal.returns-in-Some-clause-passed
 returns-in-Some-clause-passed c = λ n kept a.
     known_passed c.args.search.now.seen.now c.args.search.now.index.now.docs n kept c.args.fronts.now.fronts.items c.args.found.now.kind
     c.args.first.0 c.in-Some.front a c.in-Some.ensures
+
+pub returns-in-None-clause-passed : goal.returns-in-None-clause-passed
+returns-in-None-clause-passed c = λ n kept a. c.box_front.ensures.passed n kept

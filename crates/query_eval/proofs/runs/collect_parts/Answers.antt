@@ -1,4 +1,4 @@
-use Rattle.std.proofs.Common.{rules, ◌≡◌, ◌+◌, ◌≤◌, ◌<◌, ◌∷◌, ◌∙◌, Some, length, drop, arith, subst, sym, ap}
+use Rattle.std.proofs.Common.{rules, refl, ◌≡◌, ◌+◌, ◌≤◌, ◌<◌, ◌∷◌, ◌∙◌, Some, length, drop, arith, subst, sym, ap}
 use Rattle.std.specs.Prelude.{slice_get, slice_index_or, option_to_list}
 use Rattle.tql_core.specs.Trees.{tree_at}
 use Rattle.time_marks.specs.Found.{nested}
@@ -38,8 +38,26 @@ collect_part-requires-clause-fronts g c = record {
       c.loop-place.invariant.query c.loop-place.invariant.fronts c.requires.fronts;
 }
 
-pub loop-place-init-clause-fronts : goal.loop-place-init-clause-fronts
-loop-place-init-clause-fronts g c = adds_none _ _ _ c.args.fronts.now.boxes.fronts.items
+pub loop-place-init : goal.loop-place-init
+loop-place-init g c = record {
+  hits = refl;
+  ready = c.requires.ready;
+  places = refl;
+  query = refl;
+  fronts = adds_none _ _ _ c.args.fronts.now.boxes.fronts.items;
+  steps = omega arith;
+  more = omega arith;
+}
+
+pub collect_part-requires-clause-window : goal.collect_part-requires-clause-window
+collect_part-requires-clause-window g c =
+    let q = c.args.plan.now.query in
+    let part = c.part-item.result in
+    let below : c.loop-place.place < length q.parts = search rules in
+    let is : part ≡ slice_index_or q.parts c.loop-place.place part = search rules in
+    let s : slice_get q.parts c.loop-place.place ≡ Some part = item_at q.parts c.loop-place.place part part below is in
+    let f = part_fits q c.requires.run.probes part (get_in q.parts c.loop-place.place part s) in
+    record { window = c.requires.run.window; plus = f.plus }
 
 pub loop-place-preserved : goal.loop-place-preserved
 loop-place-preserved g c =

@@ -1,5 +1,6 @@
-use Rattle.std.proofs.Common.{rules, ◌≡◌, ◌≤◌, [], length, arith}
+use Rattle.std.proofs.Common.{rules, ◌≡◌, ◌∙◌, ◌≤◌, [], length, ap, arith}
 use Rattle.query_eval.specs.Lowest.{lowest}
+use Rattle.query_eval.specs.Hits.{HitsWithRoom}
 use Rattle.probe_eval.specs.Nested.{was_seen}
 use Rattle.probe_eval.specs.Runs.{query_hits}
 use Rattle.time_marks.specs.Views.{ranged_probes}
@@ -42,9 +43,15 @@ returns-clause-due g c =
     taken_due c.args.plan.now.query c.requires.run.probes c.args.seen.now c.args.index.now c.args.w _ _ (returns-clause-steps g c)
 
 pub collect_parts-requires-clause-fronts : goal.collect_parts-requires-clause-fronts
-collect_parts-requires-clause-fronts g c = in_box_from c.args.query c.args.seen.now c.args.index.now.docs c.begin.new.self.boxes
-    c.args.into.now.fronts c.begin.ensures.query c.begin.ensures.boxes c.requires.fronts
+collect_parts-requires-clause-fronts g c =
+    let same : c.begin.new.self.boxes.fronts.items ≡ c.args.into.now.fronts = c.begin.ensures.boxes
+    ∙ ap (λ (hits : HitsWithRoom). hits.fronts) c.into.view_is in
+    in_box_from c.args.query c.args.seen.now c.args.index.now.docs c.begin.new.self.boxes c.args.into.now.fronts c.begin.ensures.query
+    same c.requires.fronts
 
 pub returns-clause-fronts : goal.returns-clause-fronts
-returns-clause-fronts g c = adds_from c.args.query c.args.seen.now c.args.index.now.docs c.begin.new.self.boxes c.args.into.now.fronts
-    c.begin.ensures.query c.begin.ensures.boxes _ c.collect_parts.ensures.fronts
+returns-clause-fronts g c =
+    let same : c.begin.new.self.boxes.fronts.items ≡ c.args.into.now.fronts = c.begin.ensures.boxes
+    ∙ ap (λ (hits : HitsWithRoom). hits.fronts) c.into.view_is in
+    adds_from c.args.query c.args.seen.now c.args.index.now.docs c.begin.new.self.boxes c.args.into.now.fronts c.begin.ensures.query
+    same _ c.collect_parts.ensures.fronts
