@@ -221,7 +221,7 @@ impl Fronts {
         ensures fronts { (entries : List Entry) (docs : List Doc) (n : ℕ) (kept : List Hit)
             → ArePassed entries docs n kept self.old.fronts.items
             → AddsFronts self.old.boxes.query entries docs
-                self.old.boxes.fronts.items self.new.boxes.fronts.items }
+            self.old.boxes.fronts.items self.new.boxes.fronts.items }
     {
         store_boxes(&self.fronts, &mut self.boxes);
     }
