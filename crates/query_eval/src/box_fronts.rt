@@ -23,8 +23,12 @@ const SPREAD: u64 = 0x9E37_79B9_7F4A_7C15;
 // What stands under a slot that has no front.
 const NO_PLACE: u32 = u32::MAX;
 
+// How many slots are looked at for a front, from that of its mixed number on.
+const NEAR: usize = 4;
+
 /// Fronts that the boxes of queries hold, and the query whose run it is. Under each slot stands the
-/// place of at most one front among them, which another front of the slot replaces.
+/// place of at most one front among them. A front has one of a few slots side by side; if other
+/// fronts have all of these, it replaces one.
 #[derive(Drop)]
 pub(crate) struct BoxFronts {
     pub(crate) query: QueryNum,
@@ -85,13 +89,6 @@ impl BoxFronts {
         self.query = query;
     }
 
-    // Returns the slot of a front.
-    fn slot(&self, query: QueryNum, kind: ListKind, first: DocNum) -> usize {
-        mix(query, kind, first)
-            .checked_rem(self.places.len())
-            .unwrap_or(0)
-    }
-
     // Returns the front at this place, if there is one.
     fn front_at(&self, place: usize) -> Option<BoxFront>
         ensures { result ≡ slice_get self.now.fronts.items place }
@@ -110,6 +107,28 @@ impl BoxFronts {
             None => None,
             Some(place) => self.front_at(*place as usize),
         }
+    }
+
+    // Returns the slot of a front: that under which it stands, or a free one, or else the first of
+    // those that are looked at.
+    fn slot(&self, query: QueryNum, kind: ListKind, first: DocNum) -> usize {
+        let start = mix(query, kind, first)
+            .checked_rem(self.places.len().saturating_sub(NEAR))
+            .unwrap_or(0);
+        let mut step = 0;
+        'near: while step < NEAR {
+            let slot = start.wrapping_add(step);
+            match self.front_under(slot) {
+                None => return slot,
+                Some(front) => {
+                    if is_box_front_of(&front, query, kind, first) {
+                        return slot;
+                    }
+                }
+            }
+            step += 1;
+        }
+        start
     }
 
     /// Returns how many documents at the front of the list of this kind that begins with this
@@ -139,7 +158,7 @@ impl BoxFronts {
         let _ = self.fronts.push(front);
     }
 
-    /// Stores a front in place of that of its slot. It is left out if there is no room; no memory
+    /// Stores a front in place of what its slot has. It is left out if there is no room; no memory
     /// is taken.
     pub(crate) fn put(&mut self, front: BoxFront)
         ensures query { self.new.query ≡ self.old.query }
@@ -184,8 +203,8 @@ impl BoxFronts {
         }
     }
 
-    /// Makes room for the fronts of the lists of that many documents, mostly of twice as many. The
-    /// slots are others then.
+    /// Makes room for the fronts of the lists of that many documents. If there is less, the room is
+    /// made twice as large, and each front goes under its new slot.
     pub(crate) fn grow_to(&mut self, n: u32) -> Result<(), Memory>
         ensures { self.new.fronts.items ≡ self.old.fronts.items }
     {
@@ -193,10 +212,11 @@ impl BoxFronts {
         if room <= self.places.len() {
             return Ok(());
         }
-        self.fronts.reserve(2 * room)?;
-        self.places.reserve(2 * room)?;
+        let slots = 2 * room + NEAR;
+        self.fronts.reserve(slots)?;
+        self.places.reserve(slots)?;
         self.places.clear();
-        self.places.resize(2 * room, NO_PLACE)?;
+        self.places.resize(slots, NO_PLACE)?;
         self.set_places();
         Ok(())
     }

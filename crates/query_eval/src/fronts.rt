@@ -226,12 +226,11 @@ impl Fronts {
         store_boxes(&self.fronts, &mut self.boxes);
     }
 
-    /// Makes room for the fronts of the lists of that many documents.
+    /// Makes room for the fronts of the lists of that many documents in one run.
     pub(crate) fn grow_to(&mut self, n: u32) -> Result<(), Memory>
         ensures fronts { self.new.fronts.items ≡ self.old.fronts.items }
-        ensures boxes { self.new.boxes.fronts.items ≡ self.old.boxes.fronts.items }
+        ensures boxes { self.new.boxes ≡ self.old.boxes }
     {
-        self.boxes.grow_to(n)?;
         self.fronts.reserve(n as usize / LONG + 1)?;
         self.places.resize(n as usize + 1, 0)?;
         Ok(())

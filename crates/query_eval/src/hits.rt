@@ -57,9 +57,9 @@ impl Hits {
         }
     }
 
-    /// Returns no hits, with room for one of each of the documents 1 to `n`. `Memory` comes if
-    /// memory runs out.
-    pub fn with_room(alloc: Global, n: u32) -> Result<Hits, Memory>
+    // Returns no hits, with room for one of each of the documents 1 to `n`, but for no front that
+    // stays for another run.
+    pub(crate) fn for_one_run(alloc: Global, n: u32) -> Result<Hits, Memory>
         ensures { IfOk result (λ h. h ≡ record { hits = []; room = n; fronts = [] }) }
     {
         let hits = Vec::with_capacity(alloc, n as usize)?;
@@ -71,6 +71,21 @@ impl Hits {
             kept: LeastHits { hits, places },
             fronts,
         })
+    }
+
+    /// Returns no hits, with room for one of each of the documents 1 to `n`. `Memory` comes if
+    /// memory runs out.
+    pub fn with_room(alloc: Global, n: u32) -> Result<Hits, Memory>
+        ensures { IfOk result (λ h. h ≡ record { hits = []; room = n; fronts = [] }) }
+    {
+        let mut hits = Hits::for_one_run(alloc, n)?;
+        match hits.fronts.boxes.grow_to(n) {
+            Ok(()) => Ok(hits),
+            Err(Memory) => {
+                drop(hits);
+                Err(Memory)
+            }
+        }
     }
 
     /// Returns how many hits there is room for.
@@ -123,6 +138,7 @@ impl Hits {
             return Ok(());
         }
         self.fronts.grow_to(n)?;
+        self.fronts.boxes.grow_to(n)?;
         self.kept.grow_to(n)
     }
 }

@@ -1,7 +1,8 @@
 use Rattle.std.proofs.Common.{rules, ◌≡◌, Some, length, to_z, of_z, w64}
 use Rattle.std.specs.Prelude.{slice_get}
 use Rattle.row_index.specs.Orders.{doc_num}
-use Rattle.query_eval.proofs.FrontLaws.{known_here, passed_here, passed_of, front_more, boxes_alike}
+use Rattle.query_eval.proofs.BoxLaws.{boxes_alike}
+use Rattle.query_eval.proofs.FrontLaws.{known_here, passed_here, passed_of, front_more}
 use Rattle.query_eval.proofs.behind.done_front.Goals as goal
 
 pub returns-then-len-lt-LONG-clause-done : goal.returns-then-len-lt-LONG-clause-done

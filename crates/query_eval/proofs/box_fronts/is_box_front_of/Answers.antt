@@ -1,6 +1,7 @@
 use Rattle.std.proofs.Common.{rules, ◌≡◌, true}
 use Rattle.probe_eval.specs.contracts.list_kind.ListKindPartialEq.TheImpl as kind
-use Rattle.query_eval.proofs.FrontLaws.{kind_is, query_is}
+use Rattle.query_eval.proofs.BoxLaws.{query_is}
+use Rattle.query_eval.proofs.FrontLaws.{kind_is}
 use Rattle.query_eval.proofs.box_fronts.is_box_front_of.Goals as goal
 
 pub returns : goal.returns

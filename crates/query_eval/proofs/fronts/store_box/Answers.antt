@@ -1,5 +1,5 @@
 use Rattle.std.proofs.Common.{refl}
-use Rattle.query_eval.proofs.FrontLaws.{added_none}
+use Rattle.query_eval.proofs.BoxLaws.{added_none}
 use Rattle.query_eval.proofs.fronts.store_box.Goals as goal
 
 pub returns-else-front-gt0-clause-fronts : goal.returns-else-front-gt0-clause-fronts

@@ -1,6 +1,7 @@
 use Rattle.std.proofs.Common.{◌∙◌, refl}
 use Rattle.std.specs.Prelude.{slice_index_or}
-use Rattle.query_eval.proofs.FrontLaws.{adds_none, box_stored, item_in}
+use Rattle.query_eval.proofs.BoxLaws.{adds_none, box_stored}
+use Rattle.query_eval.proofs.FrontLaws.{item_in}
 use Rattle.query_eval.proofs.fronts.store_boxes.Goals as goal
 
 pub loop-front-init : goal.loop-front-init

@@ -13,7 +13,8 @@ use Rattle.probe_eval.proofs.Steps.{get_in}
 use Rattle.probe_eval.proofs.Steps.{rest_at, item_at}
 use Rattle.query_eval.proofs.Steps.{hits_step}
 use Rattle.query_eval.specs.declared.box_fronts.BoxFronts.{BoxFronts}
-use Rattle.query_eval.proofs.FrontLaws.{passed_empty, adds_none, added_alike, stored_more}
+use Rattle.query_eval.proofs.BoxLaws.{adds_none, added_alike, stored_more}
+use Rattle.query_eval.proofs.FrontLaws.{passed_empty}
 use Rattle.query_eval.proofs.runs.collect_parts.Goals as goal
 
 pub collect_part-requires-clause-search : goal.collect_part-requires-clause-search

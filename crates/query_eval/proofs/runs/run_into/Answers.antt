@@ -5,7 +5,7 @@ use Rattle.probe_eval.specs.Nested.{was_seen}
 use Rattle.probe_eval.specs.Runs.{query_hits}
 use Rattle.time_marks.specs.Views.{ranged_probes}
 use Rattle.probe_eval.proofs.Founds.{query_found}
-use Rattle.query_eval.proofs.FrontLaws.{in_box_from, adds_from}
+use Rattle.query_eval.proofs.BoxLaws.{in_box_from, adds_from}
 use Rattle.query_eval.proofs.Plans.{hits_kept, placed_fit, taken_run, taken_quiet, taken_due}
 use Rattle.query_eval.proofs.runs.run_into.Goals as goal
 

@@ -1,7 +1,7 @@
 use Rattle.std.proofs.Common.{rules, ◌≡◌, true}
 use Rattle.tap_rows.specs.Kept.{In}
 use Rattle.query_eval.specs.BoxFronts.{IsBoxFrontOf}
-use Rattle.query_eval.proofs.FrontLaws.{box_known, box_none}
+use Rattle.query_eval.proofs.BoxLaws.{box_known, box_none}
 use Rattle.query_eval.proofs.box_fronts.BoxFronts.boxed.Goals as goal
 
 pub returns-in-None : goal.returns-in-None

@@ -1,5 +1,5 @@
 use Rattle.std.proofs.Common.{refl}
-use Rattle.query_eval.proofs.FrontLaws.{added_none, added_at, added_behind}
+use Rattle.query_eval.proofs.BoxLaws.{added_none, added_at, added_behind}
 use Rattle.query_eval.proofs.box_fronts.BoxFronts.put.Goals as goal
 
 pub returns-then-slot-len-clause-fronts : goal.returns-then-slot-len-clause-fronts
