@@ -11,7 +11,7 @@ use Rattle.tap_rows.specs.declared.rows.Doc.{Doc}
 use Rattle.tap_rows.specs.declared.results.Hit.{Hit}
 use Rattle.tap_rows.specs.declared.results.Entry.{Entry}
 use Rattle.tap_rows.specs.Kept.{Each, In}
-use Rattle.tap_rows.proofs.LaterLaws.{each-map, each-append}
+use Rattle.tap_rows.proofs.LaterLaws.{each-map}
 use Rattle.tql_core.specs.declared.term.Var.{Var}
 use Rattle.tql_core.specs.Row.{Row, OfDoc}
 use Rattle.tql_core.specs.Values.{Env, bind, lookup}
@@ -182,14 +182,6 @@ module _ (entries : List Entry) (docs : List Doc) (n : ℕ) (kept : List Hit) wh
     boxed = subst (λ f. IsBoxed entries docs kind f front.boxed) o.first_is
         (subst (λ k. IsBoxed entries docs k front.first.0 front.boxed) o.kind_is p.boxed);
   }
-
-  pub passed_put : (fronts : List Front) (k : ℕ) (front : Front) → ArePassed entries docs n kept fronts
-      → IsFrontPassed entries docs n kept front → ArePassed entries docs n kept (slice_set fronts k front)
-  passed_put fronts k front a p = record { each = each_put (IsFrontPassed entries docs n kept) fronts k front a.each p }
-
-  pub passed_more : (fronts : List Front) (front : Front) → ArePassed entries docs n kept fronts → IsFrontPassed entries docs n kept front
-      → ArePassed entries docs n kept (fronts ++ front ∷ [])
-  passed_more fronts front a p = record { each = each-append (IsFrontPassed entries docs n kept) fronts (front ∷ []) a.each (p, tt) }
 
   pub passed_empty : (fronts : List Front) → fronts ≡ [] → ArePassed entries docs n kept fronts
   passed_empty fronts e = record { each = subst (λ fs. Each (IsFrontPassed entries docs n kept) fs) (sym e) tt }
