@@ -1,7 +1,8 @@
 //! Fronts of posting lists that the boxes of queries hold, in room that was taken before.
 //!
 //! A box only grows, and so does a posting list, at its end. So what one run finds of a box at a
-//! list's front holds for later runs of the query, which begin behind it.
+//! list's front holds for later runs of the query, which begin behind it. A run finds what was in
+//! the box before it, so this holds even if the run is undone.
 
 ghost use Rattle.std.specs.Prelude.{◌≡◌, ◌<◌, ◌++◌, ◌∷◌, List, [], true, length, slice_get};
 ghost use Rattle.std.specs.Prelude.{IfSome, vec_capacity};
