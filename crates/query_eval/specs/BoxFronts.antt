@@ -37,7 +37,7 @@ pub record AreBoxed (entries : List Entry) (len : ℕ) (docs : List Doc) : Type 
   pub there : len ≤ length docs
   pub boxed : Each (λ d. is_in d.num.0 entries ≡ true) (take len docs)
 
--- so many are of each posting list of this kind that begins with this document
+-- of each posting list of this kind that begins with this document, that many documents at the front are there and in the box
 pub record IsBoxed (entries : List Entry) (docs : List Doc) (kind : ListKind) (first len : ℕ) : Type 0 where
   pub lists : (key : ListKey) → kind_of key ≡ kind → BeginsWith first (docs_under key docs) → AreBoxed entries len (docs_under key docs)
 

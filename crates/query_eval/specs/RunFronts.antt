@@ -28,11 +28,11 @@ pub record IsFrontPassed (entries : List Entry) (docs : List Doc) (n : ℕ) (kep
   pub done : IsPassed entries docs n kept front.kind front.first.0 front.mark front.len
   pub boxed : IsBoxed entries docs front.kind front.first.0 front.boxed
 
--- each front is so
+-- each front is such
 pub record ArePassed (entries : List Entry) (docs : List Doc) (n : ℕ) (kept : List Hit) (fronts : List Front) : Type 0 where
   pub each : Each (IsFrontPassed entries docs n kept) fronts
 
--- each front of a run is so by the rows and deliveries of a search, and those of earlier runs are in its box
+-- each front of a run is such by the rows and deliveries of a search, and those of earlier runs are in its box
 pub record AreDone (s : Search) (into : LeastHits) (fronts : Fronts) : Type 0 where
   pub passed : ArePassed s.seen.now s.index.now.docs (length into.places.items) into.hits.items fronts.fronts.items
   pub boxes : AreInBox fronts.boxes.query s.seen.now s.index.now.docs fronts.boxes.fronts.items
