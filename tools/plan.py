@@ -62,8 +62,9 @@ def share(
     """Returns the crates to begin now, the longest chain first, and the jobs of each.
 
     `ready` wait for no other crate, `running` has the jobs of those at work. The crate with the longest chain of all has as many
-    jobs as there are processors. Another begins only if half a processor is free. At most as many crates run as there are
-    processors, each within the memory `room`; if nothing runs, the first begins in any case.
+    jobs as there are processors. Another begins only if half a processor is free, and has two jobs at least if its chain on one
+    processor would outlast the longest on all. At most as many crates run as there are processors, each within the memory `room`;
+    if nothing runs, the first begins in any case.
     """
     running, begun = dict(running), []
     # Of a crate that is at work only what stands above it counts: it may be almost done.
@@ -77,7 +78,8 @@ def share(
         if is_head:
             jobs = processors
         else:
-            jobs = max(1, int((free + 0.5) // (others + 1)))
+            is_late = chain[name] * BUSY[min(processors, MOST_JOBS)] > longest
+            jobs = max(1 + is_late, int((free + 0.5) // (others + 1)))
         jobs = fitting(needs[name], min(jobs, processors, most, MOST_JOBS), room)
         if not jobs and running:
             if is_head:

@@ -118,6 +118,11 @@ class PlanTest(unittest.TestCase):
         self.assertEqual(self.share(["a", "b"], {"head": 2}, 4), [("a", 1), ("b", 1)])
         self.assertEqual(self.share(["a"], {"head": 2}, 2), [])
 
+    def test_one_that_would_be_late_on_one_processor_has_two_jobs(self) -> None:
+        chain, work = {"head": 100, "keepers": 40, "a": 30}, {"head": 5, "keepers": 5, "a": 5}
+        for name, jobs in (("keepers", 2), ("a", 1)):
+            self.assertEqual(plan.share([name], {"head": 4}, work, chain, dict.fromkeys(chain, 2.0), 100, 4), [(name, jobs)])
+
     def test_memory_bounds_jobs_and_crates(self) -> None:
         self.assertEqual(self.share(["head"], {}, 4, room=3.3), [("head", 2)])
         self.assertEqual(self.share(["head"], {}, 4, room=1), [("head", 1)])
