@@ -34,6 +34,11 @@ def of_ten(i):
     return mail(i, i // 10)
 
 
+def of_one(i):
+    """All mails have one subject."""
+    return mail(i, 0)
+
+
 def person(i):
     """Ten people write a hundred mails in turn, then ten others."""
     return f"person{i // 100 * 10 + i % 10}"
@@ -188,6 +193,7 @@ ROWS = [
         plain(has_word("m", "word1 OR word2 OR word3 OR word4")),
     ),
     Row("another of its subject", ANOTHER),
+    Row("another of the one subject", ANOTHER, None, of_one),
     Row("another of ten of its subject", ANOTHER, exists(("doc r", "r.subject = m.subject AND r.num > m.num")), of_ten),
     Row("a thread by references", "EXISTS (r: DOC WHERE r.references HAS m.msgid)", exists(CITED), event=new_reply),
     Row("a thread", f"EXISTS (r: DOC WHERE {THREAD})", exists(REPLY, CITED), event=new_reply, asked=True),
