@@ -98,7 +98,7 @@ fronts-query docs queries row fronts last are =
         → In kept queries ⊎ In kept (never_run row ∷ []) → IsInBox kept.entries docs front
     one front kept is own (inl has) = is.boxed kept has own
     one front kept is own (inr (inl e)) = not-new front kept is own e
-    one front kept is own (inr (inr no)) = absurd no
+    one front kept is own (inr (inr none)) = absurd none
 
     next : (front : BoxFront) → IsFrontOfBox docs queries front → IsFrontOfBox docs (queries ++ never_run row ∷ []) front
     next front is = record {
@@ -163,16 +163,13 @@ pub fronts-run : (docs : List Doc) (i : ℕ) (queries : List CachedQuery) (m : �
     (fronts : List BoxFront) → AreFrontsOfBoxes docs queries fronts
     → AreFrontsOfBoxes docs (slice_set queries i (after_run m entries (slice_index_or queries i d))) fronts
 fronts-run docs i queries m entries d fronts are =
-    each-map (IsFrontOfBox docs queries) (IsFrontOfBox docs next) fronts
-    (λ front is. record {
+    each-map (IsFrontOfBox docs queries)
+    (IsFrontOfBox docs (slice_set queries i (after_run m entries (slice_index_or queries i d)))) fronts (λ front is. record {
       there = let len = length-run i queries (after_run m entries (slice_index_or queries i d)) in let le = is.there in
           omega (arith, len, le);
       boxed = λ kept has own. one front kept is own (was-before i queries m entries d kept has);
     }) are
   where
-    abbrev next : List CachedQuery
-    next = slice_set queries i (after_run m entries (slice_index_or queries i d))
-
     one : (front : BoxFront) (kept : CachedQuery) → IsFrontOfBox docs queries front → front.query ≡ kept.row.num → WasBefore queries kept
         → IsInBox kept.entries docs front
     one front kept is own was = in-box-grown was.old.entries was.more kept.entries docs front was.entries
