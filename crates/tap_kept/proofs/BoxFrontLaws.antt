@@ -1,5 +1,5 @@
 -- Fronts stay in the boxes of their queries as documents, queries and runs are added.
-use Rattle.std.proofs.Common.{◌≡◌, ◌∙◌, sym, refl, ap, subst, arith, ℕ, zero, suc, ◌+◌, ◌≤◌, ◌<◌, ℤ, Bool, true, false, List, [], ◌∷◌}
+use Rattle.std.proofs.Common.{◌≡◌, ◌∙◌, sym, refl, ap, subst, arith, ℕ, zero, suc, ◌+◌, ◌≤◌, ◌<◌, ℤ, true, List, [], ◌∷◌}
 use Rattle.std.proofs.Common.{◌++◌, take, length, nat_eq, inl, inr}
 use Rattle.std.specs.Prelude.{◌⊎◌, ◌||◌, slice_index_or, slice_set}
 use Rattle.std.proofs.lemmas.List.{append-nil, length-append}

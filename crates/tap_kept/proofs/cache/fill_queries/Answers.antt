@@ -1,4 +1,4 @@
-use Rattle.std.proofs.Common.{◌∙◌, ◌++◌, ap, sym, subst, length, map, List}
+use Rattle.std.proofs.Common.{◌≡◌, ◌∙◌, ◌++◌, ap, sym, subst, length, map, List}
 use Rattle.std.proofs.lemmas.List.{length-map}
 use Rattle.tap_rows.specs.Kept.{Each, QueriesFrom}
 use Rattle.tap_kept.specs.declared.cached_query.CachedQuery.{CachedQuery}
