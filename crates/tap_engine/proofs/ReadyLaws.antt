@@ -31,7 +31,7 @@ use Rattle.tap_engine.specs.declared.engine.Engine.{Engine}
 use Rattle.tap_engine.specs.declared.run.Due.{Due}
 use Rattle.tap_kept.specs.Keeping.{named_in, never_run, after_run, before_run, without_run}
 use Rattle.tap_kept.specs.BoxFronts.{AreFrontsOfBoxes}
-use Rattle.tap_kept.proofs.BoxFrontLaws.{fronts-later, fronts-own, fronts-found}
+use Rattle.tap_kept.proofs.BoxFrontLaws.{length-set, fronts-later, fronts-own, fronts-found}
 use Rattle.tap_engine.specs.Ready.{CachedFrom, RowsBy, IsTime, IsReady}
 use Rattle.tap_engine.specs.Standing.{cached_named, cached_hits, due_of}
 use Rattle.tap_engine.specs.Answering.{IsUnchangedButHits, UndoRestores, undo_run}
@@ -168,11 +168,6 @@ pub run-back : (i : ℕ) (queries : List CachedQuery) (m : ℤ) (entries : List 
 run-back i [] m entries d = refl
 run-back zero (kept ∷ queries) m entries d = ap (λ k. k ∷ queries) (same-query kept m entries)
 run-back (suc i) (kept ∷ queries) m entries d = ap (λ l. kept ∷ l) (run-back i queries m entries d)
-
-pub length-set : (i : ℕ) (queries : List CachedQuery) (x : CachedQuery) → length (slice_set queries i x) ≡ length queries
-length-set i [] x = refl
-length-set zero (kept ∷ queries) x = refl
-length-set (suc i) (kept ∷ queries) x = ap suc (length-set i queries x)
 
 -- the engine before a run
 pub undo-run : (e e' : Engine) (h : HitsWithRoom) (i : ℕ) (m : ℤ) (entries : List Entry) (runs picks : ℕ) (d : CachedQuery)

@@ -22,15 +22,11 @@ use Rattle.query_eval.specs.BoxFronts.{IsInBox, AreInBox, AddsFronts}
 use Rattle.tap_kept.specs.declared.cached_query.CachedQuery.{CachedQuery}
 use Rattle.tap_kept.specs.Keeping.{never_run, after_run}
 use Rattle.tap_kept.specs.BoxFronts.{IsFrontOfBox, AreFrontsOfBoxes}
+use Rattle.tap_kept.proofs.NewLaws.{back-more}
 
 -- the list under a key grows at its end
 under-more : (key : ListKey) (docs more : List Doc) → docs_under key (docs ++ more) ≡ docs_under key docs ++ docs_under key more
 under-more key docs more = filter-append (is_under_key key) docs more
-
-take-more : {A : Type 0} (n : ℕ) (xs ys : List A) → n ≤ length xs → take n (xs ++ ys) ≡ take n xs
-take-more zero xs ys le = refl
-take-more (suc n) [] ys le = absurd (omega (arith, le))
-take-more (suc n) (x ∷ xs) ys le = ap (λ l. x ∷ l) (take-more n xs ys (omega (arith, le)))
 
 -- a list that begins with this document began with it before documents of greater numbers came
 begins-before : (first : ℕ) (under more : List Doc) → Each (λ doc. first < doc.num.0) more → BeginsWith first (under ++ more)
@@ -65,7 +61,7 @@ module _ (entries : List Entry) (docs more : List Doc) (front : BoxFront) where
         let old = before key is.stored late begins in
         let front-is : take front.len (docs_under key (docs ++ more)) ≡ take front.len (docs_under key docs) =
         ap (take front.len) (under-more key docs more)
-        ∙ take-more front.len (docs_under key docs) (docs_under key more) (is.there key kind old) in
+        ∙ back-more front.len (docs_under key docs) (docs_under key more) (is.there key kind old) in
         subst (Each is-boxed) (sym front-is) (is.boxed key kind old);
   }
 
@@ -138,10 +134,10 @@ was-before (suc i) (first ∷ queries) m entries d kept (inl e) = was-there (fir
 was-before (suc i) (first ∷ queries) m entries d kept (inr has) =
     was-behind first queries kept (was-before i queries m entries d kept has)
 
-pub length-run : (i : ℕ) (queries : List CachedQuery) (x : CachedQuery) → length (slice_set queries i x) ≡ length queries
-length-run i [] x = refl
-length-run zero (kept ∷ queries) x = refl
-length-run (suc i) (kept ∷ queries) x = ap suc (length-run i queries x)
+pub length-set : (i : ℕ) (queries : List CachedQuery) (x : CachedQuery) → length (slice_set queries i x) ≡ length queries
+length-set i [] x = refl
+length-set zero (kept ∷ queries) x = refl
+length-set (suc i) (kept ∷ queries) x = ap suc (length-set i queries x)
 
 -- what is in a box is there after more deliveries
 in-grown : (doc : ℕ) (entries more : List Entry) → is_in doc entries ≡ true → is_in doc (entries ++ more) ≡ true
@@ -165,7 +161,7 @@ pub fronts-run : (docs : List Doc) (i : ℕ) (queries : List CachedQuery) (m : �
 fronts-run docs i queries m entries d fronts are =
     each-map (IsFrontOfBox docs queries)
     (IsFrontOfBox docs (slice_set queries i (after_run m entries (slice_index_or queries i d)))) fronts (λ front is. record {
-      there = let len = length-run i queries (after_run m entries (slice_index_or queries i d)) in let le = is.there in
+      there = let len = length-set i queries (after_run m entries (slice_index_or queries i d)) in let le = is.there in
           omega (arith, len, le);
       boxed = λ kept has own. one front kept is own (was-before i queries m entries d kept has);
     }) are
