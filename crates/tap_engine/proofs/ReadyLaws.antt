@@ -1,10 +1,11 @@
 -- The engine stays ready for its next step.
-use Rattle.std.proofs.Common.{◌≡◌, ◌∙◌, sym, refl, ap, subst, arith, ℕ, zero, suc, ◌+◌, ◌≤◌, ◌<◌, ℤ, List, [], ◌∷◌, ◌++◌, length, Bool}
-use Rattle.std.proofs.Common.{true, false, Option, Some, None, if◌then◌else◌}
+use Rattle.std.proofs.Common.{◌≡◌, ◌∙◌, sym, refl, ap, subst, inl, inr, arith, ℕ, zero, suc, ◌+◌, ◌-◌, ◌≤◌, ◌<◌, ℤ, List, [], ◌∷◌}
+use Rattle.std.proofs.Common.{◌++◌, length, Bool, true, false, Option, Some, None, if◌then◌else◌}
 use Rattle.std.specs.Prelude.{◌≤ℤ◌, int_le, find, slice_index_or, slice_set}
 use Rattle.std.specs.Option.{option_or}
 use Rattle.std.proofs.lemmas.Int.{ints}
 use Rattle.std.proofs.Math.Seq.{take-append_seam}
+use Rattle.tap_base.specs.declared.numbers.QueryNum.{QueryNum}
 use Rattle.tap_base.specs.Numbers.{moment_of}
 use Rattle.tql_types.proofs.Ranges.{InRange, moment-range}
 use Rattle.tap_rows.specs.declared.rows.QueryRow.{QueryRow}
@@ -13,20 +14,24 @@ use Rattle.tap_rows.specs.declared.rows.Note.{Note}
 use Rattle.tap_rows.specs.declared.change.Change.TheVariants.{Docs, OneNote}
 use Rattle.tap_rows.specs.Tables.{after}
 use Rattle.row_index.specs.Orders.{doc_arrival, note_arrival}
+use Rattle.query_eval.specs.declared.box_front.BoxFront.{BoxFront}
 use Rattle.query_eval.specs.Hits.{HitsWithRoom}
+use Rattle.query_eval.specs.BoxFronts.{AreInBox, AddsFronts}
 use Rattle.vote_scores.specs.Tally.{Vote}
-use Rattle.tap_rows.specs.Kept.{Each}
+use Rattle.tap_rows.specs.Kept.{Each, In}
 use Rattle.script_lang.specs.declared.refusal.Refusal.TheVariants.{Backwards}
 use Rattle.tap_model.specs.Queries.{start_of}
 use Rattle.tap_rows.specs.WellFormed.{is_query_of}
 use Rattle.tap_model.specs.Replies.{docs_from}
-use Rattle.tap_model.specs.Sessions.{or_zero, moment_or_zero}
+use Rattle.tap_model.specs.Sessions.{or_zero, moment_or_zero, user_of}
 use Rattle.tap_model.specs.Verdicts.{is_back, refuse_unless}
 use Rattle.tap_model.proofs.AnswerLaws.{some-none}
 use Rattle.tap_kept.specs.declared.cached_query.CachedQuery.{CachedQuery}
 use Rattle.tap_engine.specs.declared.engine.Engine.{Engine}
 use Rattle.tap_engine.specs.declared.run.Due.{Due}
 use Rattle.tap_kept.specs.Keeping.{named_in, never_run, after_run, before_run, without_run}
+use Rattle.tap_kept.specs.BoxFronts.{AreFrontsOfBoxes}
+use Rattle.tap_kept.proofs.BoxFrontLaws.{length-set, fronts-later, fronts-own, fronts-found}
 use Rattle.tap_engine.specs.Ready.{CachedFrom, RowsBy, IsTime, IsReady}
 use Rattle.tap_engine.specs.Standing.{cached_named, cached_hits, due_of}
 use Rattle.tap_engine.specs.Answering.{IsUnchangedButHits, UndoRestores, undo_run}
@@ -38,6 +43,7 @@ pub record KeptAt (num runs : ℕ) (queries : List CachedQuery) (kept : CachedQu
   pub high : kept.row.num.0 < num + length queries
   pub few : kept.runs ≤ runs
   pub covered : IsMoment kept.covered
+  pub has : In kept queries
   pub at : (i : ℕ) (d : CachedQuery) → kept.row.num.0 ≡ num + i → slice_index_or queries i d ≡ kept
 
 some-kept : (x y : CachedQuery) → Some x ≡ Some y → x ≡ y
@@ -46,44 +52,61 @@ some-kept x y e = cc
 no-kept : (x : CachedQuery) → None ≡ Some x → ⊥
 no-kept x e = cc
 
--- what is found is at the place of its number
-found-at : (p : CachedQuery → Bool) (num runs : ℕ) (queries : List CachedQuery) (kept : CachedQuery) → CachedFrom num runs queries
-    → find p queries ≡ Some kept → KeptAt num runs queries kept
-found-at p num runs [] kept from e = absurd (no-kept kept e)
-found-at p num runs (x ∷ queries) kept from e = go (p x) refl (found-at p (suc num) runs queries kept from.3) where
-  here : x ≡ kept → KeptAt num runs (x ∷ queries) kept
-  here same =
-      let is : kept.row.num.0 ≡ num = sym (ap (λ k. k.row.num.0) same) ∙ from.0 in
-      record {
-        low = omega (arith, is);
-        high = omega (arith, is);
-        few = subst (λ k. k.runs ≤ runs) same from.1;
-        covered = subst (λ k. IsMoment k.covered) same from.2;
-        at = λ i d at. elim i as (λ i. kept.row.num.0 ≡ num + i
-            → slice_index_or (x ∷ queries) i d ≡ kept) [ zero ↦ λ at. same | suc i ↦ λ at. absurd (omega (arith, is, at)) ] at;
-      }
+-- what is found is one of the queries
+found-in : (p : CachedQuery → Bool) (queries : List CachedQuery) (kept : CachedQuery) → find p queries ≡ Some kept → In kept queries
+found-in p [] kept e = absurd (no-kept kept e)
+found-in p (x ∷ queries) kept e = go (p x) refl (found-in p queries kept) where
+  go : (b : Bool) → p x ≡ b → (find p queries ≡ Some kept → In kept queries) → In kept (x ∷ queries)
+  go true y rest = inl (sym (some-kept x kept (sym (ap (λ b. if b then Some x else find p queries) y) ∙ e)))
+  go false n rest = inr (rest (sym (ap (λ b. if b then Some x else find p queries) n) ∙ e))
 
-  later : KeptAt (suc num) runs queries kept → KeptAt num runs (x ∷ queries) kept
-  later rest = record {
-    low = omega (arith, rest.low);
-    high = omega (arith, rest.high);
-    few = rest.few;
-    covered = rest.covered;
-    at = λ i d at. elim i as (λ i. kept.row.num.0 ≡ num + i → slice_index_or (x ∷ queries) i d ≡ kept) [
-      | zero ↦ λ at.
-          absurd (omega (arith, rest.low, at))
-      | suc i ↦ λ at. rest.at i d (omega (arith, at))
-    ] at;
-  }
+-- one of the queries is at the place of its number
+in-at : (num runs : ℕ) (queries : List CachedQuery) (kept : CachedQuery) → CachedFrom num runs queries → In kept queries
+    → KeptAt num runs queries kept
+in-at num runs [] kept from has = absurd has
+in-at num runs (x ∷ queries) kept from (inl same) =
+    let is : kept.row.num.0 ≡ num = ap (λ (k : CachedQuery). k.row.num.0) same ∙ from.0 in
+    record {
+      low = omega (arith, is);
+      high = omega (arith, is);
+      few = subst (λ (k : CachedQuery). k.runs ≤ runs) (sym same) from.1;
+      covered = subst (λ (k : CachedQuery). IsMoment k.covered) (sym same) from.2;
+      has = inl same;
+      at = λ i d at. elim i as (λ i. kept.row.num.0 ≡ num + i
+          → slice_index_or (x ∷ queries) i d ≡ kept) [ zero ↦ λ at. sym same | suc i ↦ λ at. absurd (omega (arith, is, at)) ] at;
+    }
+in-at num runs (x ∷ queries) kept from (inr has) =
+    let rest = in-at (suc num) runs queries kept from.3 has in
+    record {
+      low = omega (arith, rest.low);
+      high = omega (arith, rest.high);
+      few = rest.few;
+      covered = rest.covered;
+      has = inr has;
+      at = λ i d at. elim i as (λ i. kept.row.num.0 ≡ num + i → slice_index_or (x ∷ queries) i d ≡ kept) [
+        | zero ↦ λ at.
+            absurd (omega (arith, rest.low, at))
+        | suc i ↦ λ at. rest.at i d (omega (arith, at))
+      ] at;
+    }
 
-  go : (b : Bool) → p x ≡ b → (find p queries ≡ Some kept → KeptAt (suc num) runs queries kept) → KeptAt num runs (x ∷ queries) kept
-  go true y rest = here (some-kept x kept (sym (ap (λ b. if b then Some x else find p queries) y) ∙ e))
-  go false n rest = later (rest (sym (ap (λ b. if b then Some x else find p queries) n) ∙ e))
+-- no other query has its number
+one-numbered : (num runs : ℕ) (queries : List CachedQuery) (kept other : CachedQuery) → CachedFrom num runs queries → In kept queries
+    → In other queries → other.row.num ≡ kept.row.num → other ≡ kept
+one-numbered num runs queries kept other from has there same =
+    let here = in-at num runs queries kept from has in
+    let also = in-at num runs queries other from there in
+    let is : other.row.num.0 ≡ kept.row.num.0 = ap (λ (n : QueryNum). n.0) same in
+    let low = here.low in
+    let i : ℕ = kept.row.num.0 - num in
+    let place : kept.row.num.0 ≡ num + i = omega (arith, low) in
+    sym (also.at i kept (is ∙ place)) ∙ here.at i kept place
 
 pub named-at : (owner name : List ℕ) (num runs : ℕ) (queries : List CachedQuery) (kept : CachedQuery) → CachedFrom num runs queries
     → named_in owner name queries ≡ Some kept → KeptAt num runs queries kept
 unfolding named_in
-named-at owner name num runs queries kept from e = found-at (λ kept. is_query_of owner name kept.row) num runs queries kept from e
+named-at owner name num runs queries kept from e =
+    in-at num runs queries kept from (found-in (λ kept. is_query_of owner name kept.row) queries kept e)
 
 -- what is due is due to a query at the place of its number
 pub record DueAt (e : Engine) (name : List ℕ) (due : Due) : Type 0 where
@@ -146,30 +169,34 @@ run-back i [] m entries d = refl
 run-back zero (kept ∷ queries) m entries d = ap (λ k. k ∷ queries) (same-query kept m entries)
 run-back (suc i) (kept ∷ queries) m entries d = ap (λ l. kept ∷ l) (run-back i queries m entries d)
 
-pub length-set : (i : ℕ) (queries : List CachedQuery) (x : CachedQuery) → length (slice_set queries i x) ≡ length queries
-length-set i [] x = refl
-length-set zero (kept ∷ queries) x = refl
-length-set (suc i) (kept ∷ queries) x = ap suc (length-set i queries x)
-
 -- the engine before a run
 pub undo-run : (e e' : Engine) (h : HitsWithRoom) (i : ℕ) (m : ℤ) (entries : List Entry) (runs picks : ℕ) (d : CachedQuery)
     → i < length e.queries → e.hits.room ≤ h.room
+    → (AreFrontsOfBoxes e.index.docs e.queries e.hits.fronts → AreFrontsOfBoxes e.index.docs e.queries h.fronts)
     → e' ≡ record e {
       hits = h;
       queries = slice_set e.queries i (after_run m entries (slice_index_or e.queries i d));
       run_count = runs;
       pick_count = picks;
     } → UndoRestores (undo_run e i (slice_index_or e.queries i d)) e' e
-undo-run e e' h i m entries runs picks d lt room is =
+undo-run e e' h i m entries runs picks d lt room fronts is =
     subst (λ e'. UndoRestores (undo_run e i (slice_index_or e.queries i d)) e' e) (sym is) (record {
       there = subst (λ n. i < n) (sym (length-set i e.queries (after_run m entries (slice_index_or e.queries i d)))) lt;
-      before_is = record { same = ap (λ l. record e { hits = h; queries = l }) (run-back i e.queries m entries d); room = room };
+      before_is = record {
+        same = ap (λ l. record e { hits = h; queries = l }) (run-back i e.queries m entries d);
+        room = room;
+        fronts = fronts;
+      };
     })
 
 -- the engine with more documents, which arrive at the session's moment
 each-from : (num : ℕ) (moment : ℤ) (texts : List (List ℕ)) → Each (λ doc. doc.arrival ≤ℤ moment) (docs_from num moment texts)
 each-from num moment [] = tt
 each-from num moment (text ∷ texts) = (omega (arith, ints), each-from (num + 1) moment texts)
+
+numbers-from : (n num : ℕ) (moment : ℤ) (texts : List (List ℕ)) → n < num → Each (λ doc. n < doc.num.0) (docs_from num moment texts)
+numbers-from n num moment [] lt = tt
+numbers-from n num moment (text ∷ texts) lt = (lt, numbers-from n (num + 1) moment texts (omega (arith, lt)))
 
 each-both : {A : Type 0} (P : A → Type 0) (xs ys : List A) → Each P xs → Each P ys → Each P (xs ++ ys)
 each-both P [] ys left right = right
@@ -194,9 +221,9 @@ by-rows f e rows there each = go e.session.moment refl where
 
 pub ready-docs : (e : Engine) (h : HitsWithRoom) (texts : List (List ℕ)) (bytes : ℕ) → IsReady e → (e.session.moment ≡ None → ⊥)
     → length (e.index.docs ++ docs_from (length e.index.docs + 1) (moment_or_zero e.session) texts) ≤ h.room
-    → IsReady (record e
+    → h.fronts ≡ e.hits.fronts → IsReady (record e
     { index = after e.index (Docs (docs_from (length e.index.docs + 1) (moment_or_zero e.session) texts)); hits = h; bytes = bytes })
-ready-docs e h texts bytes ready there room = record {
+ready-docs e h texts bytes ready there room fronts = record {
   docs = by-rows doc_arrival e (e.index.docs ++ docs_from (length e.index.docs + 1) (moment_or_zero e.session) texts) there
       (each-both (λ doc. doc.arrival ≤ℤ moment_or_zero e.session) e.index.docs _ (rows-by doc_arrival e e.index.docs ready.docs there)
       (each-from (length e.index.docs + 1) (moment_or_zero e.session) texts));
@@ -204,6 +231,10 @@ ready-docs e h texts bytes ready there room = record {
   queries = ready.queries;
   moment = ready.moment;
   room = room;
+  fronts =
+      subst (AreFrontsOfBoxes (e.index.docs ++ docs_from (length e.index.docs + 1) (moment_or_zero e.session) texts) e.queries) (sym fronts)
+      (fronts-later e.index.docs (docs_from (length e.index.docs + 1) (moment_or_zero e.session) texts) e.queries e.hits.fronts
+      (numbers-from (length e.index.docs) (length e.index.docs + 1) (moment_or_zero e.session) texts (omega arith)) ready.fronts);
 }
 
 -- the engine with one more note, which arrives then
@@ -217,6 +248,7 @@ ready-note e note votes bytes ready at there = record {
   queries = ready.queries;
   moment = ready.moment;
   room = ready.room;
+  fronts = ready.fronts;
 }
 
 -- a second that isn't refused is not below the last one
@@ -244,6 +276,7 @@ ready-at e second ready range none = record {
   queries = ready.queries;
   moment = range;
   room = ready.room;
+  fronts = ready.fronts;
 }
 
 pub moment-in-range : (text : List ℕ) (m : ℤ) → moment_of text ≡ Some m → IsMoment m
@@ -264,7 +297,28 @@ ready-still e e' ready still = subst IsReady (sym still.same) (record {
   queries = ready.queries;
   moment = ready.moment;
   room = omega (arith, ready.room, still.room);
+  fronts = still.fronts ready.fronts;
 })
+
+-- the user's query of a name is at the place of its number
+kept-at : (e : Engine) (name : List ℕ) (kept : CachedQuery) → IsReady e → named_in (user_of e.session) name e.queries ≡ Some kept
+    → KeptAt 1 e.run_count e.queries kept
+kept-at e name kept ready is = named-at (user_of e.session) name 1 e.run_count e.queries kept ready.queries is
+
+-- the fronts of this query are in its box
+pub own-fronts : (e : Engine) (name : List ℕ) (kept : CachedQuery) → IsReady e → named_in (user_of e.session) name e.queries ≡ Some kept
+    → AreInBox kept.row.num kept.entries e.index.docs e.hits.fronts
+own-fronts e name kept ready is = fronts-own e.index.docs e.queries kept e.hits.fronts (kept-at e name kept ready is).has ready.fronts
+
+-- with those that a search for its run found, fronts are in the boxes of their queries
+pub found-fronts : (e : Engine) (name : List ℕ) (kept : CachedQuery) (new : List BoxFront) → IsReady e
+    → named_in (user_of e.session) name e.queries ≡ Some kept → AddsFronts kept.row.num kept.entries e.index.docs e.hits.fronts new
+    → AreFrontsOfBoxes e.index.docs e.queries e.hits.fronts → AreFrontsOfBoxes e.index.docs e.queries new
+found-fronts e name kept new ready is adds =
+    let at = kept-at e name kept ready is in
+    let high = at.high in
+    fronts-found e.index.docs e.queries kept e.hits.fronts new (omega (arith, high))
+    (λ other has same. one-numbered 1 e.run_count e.queries kept other ready.queries at.has has same) adds
 
 pub some-moment : (moment : Option ℤ) (m : ℤ) → moment ≡ Some m → moment ≡ None → ⊥
 some-moment moment m is none = no-moment m (sym is ∙ none) where

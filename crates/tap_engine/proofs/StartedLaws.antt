@@ -21,6 +21,7 @@ use Rattle.tap_model.specs.Sessions.{no_session, later_of, greatest_of, greatest
 use Rattle.vote_scores.specs.Tally.{tally}
 use Rattle.tap_engine.specs.declared.engine.Engine.{Engine}
 use Rattle.tap_kept.specs.Keeping.{cached_query, with_owner}
+use Rattle.tap_kept.specs.BoxFronts.{AreFrontsOfBoxes}
 use Rattle.tap_engine.specs.Standing.{Represents}
 use Rattle.tap_rows.specs.declared.rows.FilterRow.{FilterRow}
 use Rattle.tap_model.specs.Verdicts.{filter_fault}
@@ -65,6 +66,7 @@ pub record IsStarted (e : Engine) (t : Tables) : Type 0 where
   pub session : e.session ≡ no_session
   pub rows : e.index ≡ rows_alone t.docs t.notes
   pub room : length e.index.docs ≤ e.hits.room
+  pub fronts : e.hits.fronts ≡ []
   pub queries : e.queries ≡ map (cached_query (runs_alone t.runs t.picks)) t.queries
   pub filters : e.filters ≡ t.filters
   pub votes : e.votes ≡ tally t.notes
@@ -162,6 +164,7 @@ ready-start e t is formed = record {
       (sym is.queries) (kept-from t 1 t.queries formed.queries formed.moments formed.times));
   moment = subst (λ session. IsTime session.moment) (sym is.session) tt;
   room = is.room;
+  fronts = subst (AreFrontsOfBoxes e.index.docs e.queries) (sym is.fronts) tt;
 }
 
 -- the texts of filters of tables that a session may begin with can be read

@@ -1,6 +1,6 @@
 -- What isn't refused is answered, and its rows can be undone.
-use Rattle.std.proofs.Common.{◌≡◌, ◌∙◌, sym, refl, ap, inl, inr, arith, ℕ, ◌+◌, ◌-◌, ◌<◌, ◌≤◌, List, [], ◌∷◌, ◌++◌, length, take, true}
-use Rattle.std.proofs.Common.{false, Option, Some, None, if◌then◌else◌}
+use Rattle.std.proofs.Common.{◌≡◌, ◌∙◌, sym, refl, ap, subst, inl, inr, arith, ℕ, ◌+◌, ◌-◌, ◌<◌, ◌≤◌, List, [], ◌∷◌, ◌++◌, length, take}
+use Rattle.std.proofs.Common.{true, false, Option, Some, None, if◌then◌else◌}
 use Rattle.std.proofs.Math.Seq.{take-append_seam}
 use Rattle.std.proofs.lemmas.List.{append-nil, length-append}
 use Rattle.std.specs.Prelude.{◌⊎◌, is_some, OnSome}
@@ -25,6 +25,7 @@ use Rattle.vote_scores.specs.Tally.{CanUndoVote, Vote, without_vote}
 use Rattle.tap_engine.specs.declared.engine.Engine.{Engine}
 use Rattle.tap_engine.specs.declared.undo.Undo.TheVariants.{Docs, Note as OneNote, Query, Filter}
 use Rattle.tap_kept.specs.Keeping.{with_owner}
+use Rattle.tap_kept.specs.BoxFronts.{AreFrontsOfBoxes}
 use Rattle.tap_engine.specs.Standing.{RefusedAfter, RefusedBy}
 use Rattle.tap_engine.specs.Answering.{Answers, UndoRestores}
 
@@ -61,13 +62,15 @@ refused-after early v refusal (inr memory) = inr (memory.0, ap is_some memory.1)
 
 -- documents are undone
 pub undo-docs : (e : Engine) (docs : List Doc) (h : HitsWithRoom) (bytes n : ℕ) → n ≡ length e.index.docs → e.hits.room ≤ h.room
+    → h.fronts ≡ e.hits.fronts
     → UndoRestores (Docs n e.bytes) (record e { index = after e.index (RowDocs docs); hits = h; bytes = bytes }) e
-undo-docs e docs h bytes n is room = record {
+undo-docs e docs h bytes n is room fronts = record {
   there = tt;
   before_is = record {
     same = ap (λ n. record e { index = record e.index { docs = take n (e.index.docs ++ docs) }; hits = h }) is
         ∙ ap (λ l. record e { index = record e.index { docs = l }; hits = h }) (take-append_seam e.index.docs docs);
     room = room;
+    fronts = subst (AreFrontsOfBoxes e.index.docs e.queries) (sym fronts);
   };
 }
 
@@ -91,6 +94,7 @@ undo-note e note bytes vote votes can back = record {
     same = ap (λ l. record e { index = record e.index { notes = l }; votes = without_vote vote votes }) (one-back e.index.notes note)
         ∙ ap (λ votes. record e { votes = votes }) back;
     room = omega arith;
+    fronts = λ are. are;
   };
 }
 
@@ -113,6 +117,7 @@ undo-query e queries owner bytes n m is-n is-m = record {
         ∙ ap (λ m. record e { owners = take m (with_owner e.owners owner) }) is-m
         ∙ ap (λ l. record e { owners = l }) (owner-back e.owners owner);
     room = omega arith;
+    fronts = λ are. are;
   };
 }
 
@@ -127,5 +132,6 @@ undo-filter e filters owner bytes n m is-n is-m = record {
         ∙ ap (λ m. record e { owners = take m (with_owner e.owners owner) }) is-m
         ∙ ap (λ l. record e { owners = l }) (owner-back e.owners owner);
     room = omega arith;
+    fronts = λ are. are;
   };
 }

@@ -85,15 +85,15 @@ CanUndo (Note bytes vote) engine = (0 < length engine.index.notes) × Tally.CanU
 CanUndo (Run place covered runs entries run_count pick_count) engine = place < length engine.queries
 CanUndo undo engine = ⊤
 
--- the engine is unchanged but for its buffer of hits, which has room for no fewer, and whose fronts are still in the boxes of their
--- queries
+-- the engine is unchanged but for its buffer of hits: that has room for no fewer, and if its fronts were in the boxes of their
+-- queries, they are
 pub record IsUnchangedButHits (engine before : Engine) : Type 0 where
   pub same : engine ≡ record before { hits = engine.hits }
   pub room : before.hits.room ≤ engine.hits.room
   pub fronts : AreFrontsOfBoxes before.index.docs before.queries before.hits.fronts
       → AreFrontsOfBoxes before.index.docs before.queries engine.hits.fronts
 
--- the undo can be done, and gives the engine before it, except that its buffer of hits may have more room
+-- the undo can be done, and gives the engine before it, except that its buffer of hits may have more room and other fronts
 pub record UndoRestores (undo : Undo) (engine before : Engine) : Type 0 where
   pub there : CanUndo undo engine
   pub before_is : IsUnchangedButHits (undone undo engine) before

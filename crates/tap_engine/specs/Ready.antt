@@ -1,4 +1,4 @@
--- What must hold of an engine so that no step of a command overflows, whatever tables it represents.
+-- What must hold of an engine so that it can perform commands, whatever tables it represents.
 use Rattle.std.specs.Prelude.{ℕ, ℤ, suc, ◌≡◌, ◌≤◌, ◌≤ℤ◌, List, [], ◌∷◌, length, Option, Some, None}
 use Rattle.std.specs.Option.{option_or}
 use Rattle.tap_rows.specs.Kept.{Each}

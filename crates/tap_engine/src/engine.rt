@@ -14,9 +14,10 @@ use vote_scores::Scores;
 /// An engine: the session, and what is in memory of the tables, so that a command costs what it
 /// looks at. The index owns the documents and the notes; the other rows are in memory so far as
 /// commands ask for them. `votes` is the tally of the notes, the last value of each author for a
-/// kind and a document. `hits` has room for a run's hits and means nothing between commands.
-/// `greatest` is the greatest moment of the stored rows, which bounds the session's first moment.
-/// The engine is stopped once its keeper has failed.
+/// kind and a document. `hits` has room for a run's hits, which mean nothing between commands, and
+/// has the fronts of posting lists that are known to be in the boxes of queries. `greatest` is the
+/// greatest moment of the stored rows, which bounds the session's first moment. The engine is
+/// stopped once its keeper has failed.
 #[derive(Drop)]
 pub struct Engine {
     pub session: Session,

@@ -6,6 +6,7 @@ mod DeliveryLaws
 mod VariableLaws
 pub mod TextLaws
 mod FindLaws
+pub mod BoxFrontLaws
 mod SumLaws
 pub mod RunLaws
 pub mod AskedLaws

@@ -153,7 +153,8 @@ pub record IsAdded (before after : List Entry) (run : ℕ) (hits left : List Hit
   pub more : length before ≤ length after
   pub new : AreNew after left
 
-back-more : (n : ℕ) (xs ys : List Entry) → n ≤ length xs → take n (xs ++ ys) ≡ take n xs
+-- the front of a list is that of a longer one
+pub back-more : {A : Type 0} (n : ℕ) (xs ys : List A) → n ≤ length xs → take n (xs ++ ys) ≡ take n xs
 back-more zero xs ys le = refl
 back-more (suc n) [] ys le = absurd (omega (arith, le))
 back-more (suc n) (x ∷ xs) ys le = ap (λ l. x ∷ l) (back-more n xs ys (omega (arith, le)))

@@ -6,7 +6,7 @@ use Rattle.query_eval.specs.declared.box_front.BoxFront.{BoxFront}
 use Rattle.query_eval.specs.BoxFronts.{IsInBox}
 use Rattle.tap_kept.specs.declared.cached_query.CachedQuery.{CachedQuery}
 
--- the front is in the box of its query, which has one of the numbers up to that of the queries
+-- the front is in the box of the query of its number, which is at most how many queries there are
 pub record IsFrontOfBox (docs : List Doc) (queries : List CachedQuery) (front : BoxFront) : Type 0 where
   pub there : front.query.0 ≤ length queries
   pub boxed : (kept : CachedQuery) → In kept queries → front.query ≡ kept.row.num → IsInBox kept.entries docs front

@@ -76,6 +76,7 @@ returns c =
       session = search rules;
       rows = c.in_ok-index.ensures.index;
       room = c.in_ok-index.ensures.room;
+      fronts = c.in_ok-index.ensures.fronts;
       queries = c.in_ok-queries.ensures
           ∙ ap (λ runs. map (cached_query (runs_alone runs c.as_slice-4.result.now)) t.queries) c.as_slice-3.ensures
           ∙ ap (λ picks. map (cached_query (runs_alone t.runs picks)) t.queries) c.as_slice-4.ensures;

@@ -1,6 +1,7 @@
 use Rattle.std.proofs.Common.{rules, arith, ◌≡◌, ◌∙◌, sym, ap, subst, length, ◌+◌, ◌∷◌, []}
 use Rattle.std.proofs.lemmas.List.{length-map}
 use Rattle.tap_kept.specs.Keeping.{cached_query, never_run}
+use Rattle.tap_kept.proofs.BoxFrontLaws.{fronts-query}
 use Rattle.tap_engine.proofs.UndoLaws.{undo-query}
 use Rattle.tap_engine.proofs.MemoryRefusals.{define-memory}
 use Rattle.tap_model.proofs.SoundLaws.{start-moment}
@@ -51,6 +52,8 @@ returns-clause-ok c = record {
             (start-moment c.in_ok-row.row moment);
         moment = c.requires.ready.moment;
         room = c.requires.ready.room;
+        fronts = fronts-query c.args.self.now.index.docs c.args.self.now.queries c.in_ok-row.row c.args.self.now.hits.fronts is
+            c.requires.ready.fronts;
       });
   running = search rules;
   short = search rules;

@@ -10,12 +10,16 @@ use Rattle.tap_engine.proofs.UndoLaws.{for-memory}
 use Rattle.tap_engine.proofs.CheckLaws.{run-left}
 use Rattle.tap_engine.proofs.CostLaws.{quiet-named, due-named, most-since}
 use Rattle.tap_model.specs.Sessions.{user_of}
-use Rattle.tap_engine.proofs.ReadyLaws.{named-at}
+use Rattle.tap_engine.proofs.ReadyLaws.{named-at, own-fronts, found-fronts}
 use Rattle.tap_engine.proofs.engine.Engine.due_run.Goals as goal
 
 pub find-requires-clause-covered : goal.find-requires-clause-covered
 find-requires-clause-covered g c = (named-at (user_of c.args.self.now.session) c.args.name.now 1
     c.args.self.now.run_count c.args.self.now.queries c.in_ok-kept.kept.now c.requires.ready.queries c.in_ok-kept.ensures.ok).covered
+
+pub find-requires-clause-fronts : goal.find-requires-clause-fronts
+find-requires-clause-fronts g c =
+    own-fronts c.args.self.now c.args.name.now c.in_ok-kept.kept.now c.requires.ready c.in_ok-kept.ensures.ok
 
 pub returns-in_err-refuse_more-2-clause-refusal : goal.returns-in_err-refuse_more-2-clause-refusal
 returns-in_err-refuse_more-2-clause-refusal g c =
@@ -143,3 +147,27 @@ returns-in_err-copy_hits-clause-refusal g c =
     let by : RefusedBy (run_refusal e c.args.name.now) Memory = for-memory _ (run-left e
     c.args.name.now c.in_ok-kept.kept.now c.in-Some.moment c.find.new.hits.hits is-m look runs c.in_ok-kept.ensures.ok hits ∙ fine) in
     search (rules, by)
+
+pub returns-in_err-refuse_more-2-clause-still : goal.returns-in_err-refuse_more-2-clause-still
+returns-in_err-refuse_more-2-clause-still g c = record {
+  same = search rules;
+  room = search rules;
+  fronts = found-fronts c.args.self.now c.args.name.now c.in_ok-kept.kept.now c.find.new.hits.fronts c.requires.ready
+      c.in_ok-kept.ensures.ok c.find.ensures.fronts;
+}
+
+pub returns-in_err-copy_hits-clause-still : goal.returns-in_err-copy_hits-clause-still
+returns-in_err-copy_hits-clause-still g c = record {
+  same = search rules;
+  room = search rules;
+  fronts = found-fronts c.args.self.now c.args.name.now c.in_ok-kept.kept.now c.find.new.hits.fronts c.requires.ready
+      c.in_ok-kept.ensures.ok c.find.ensures.fronts;
+}
+
+pub returns-clause-still : goal.returns-clause-still
+returns-clause-still g c = record {
+  same = search rules;
+  room = search rules;
+  fronts = found-fronts c.args.self.now c.args.name.now c.in_ok-kept.kept.now c.find.new.hits.fronts c.requires.ready
+      c.in_ok-kept.ensures.ok c.find.ensures.fronts;
+}

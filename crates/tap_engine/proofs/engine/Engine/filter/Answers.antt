@@ -35,6 +35,7 @@ returns-clause-ok c = record {
     queries = c.requires.ready.queries;
     moment = c.requires.ready.moment;
     room = c.requires.ready.room;
+    fronts = c.requires.ready.fronts;
   });
   running = search rules;
   short = search rules;

@@ -44,7 +44,7 @@ returns-clause-ok c =
           (subst (λ e. UndoRestores (Rows c.docs-3.result c.args.self.now.bytes) e c.args.self.now) (sym engine)
           (undo-docs c.args.self.now (docs_from (length c.args.self.now.index.docs + 1) c.in-Some.moment c.from_ref.result.now)
           c.add_docs.new.self.hits (c.args.self.now.bytes + bytes_of_all c.from_ref.result.now)
-          c.docs-3.result c.docs-3.ensures.count c.add_docs.ensures.more));
+          c.docs-3.result c.docs-3.ensures.count c.add_docs.ensures.more c.add_docs.ensures.fronts));
       ready = let room :
           length (c.args.self.now.index.docs ++ docs_from (length c.args.self.now.index.docs + 1) c.in-Some.moment c.from_ref.result.now)
           ≤ c.add_docs.new.self.hits.room =
@@ -59,7 +59,7 @@ returns-clause-ok c =
           (c.args.self.now.bytes + bytes_of_all c.from_ref.result.now)
           c.requires.ready (some-moment c.args.self.now.session.moment c.in-Some.moment there)
           (subst (λ m. length (c.args.self.now.index.docs ++ docs_from (length c.args.self.now.index.docs + 1) m c.from_ref.result.now)
-          ≤ c.add_docs.new.self.hits.room) at room)));
+          ≤ c.add_docs.new.self.hits.room) at room) c.add_docs.ensures.fronts));
       running = search rules;
       short = search rules;
       accepted = search rules;

@@ -62,7 +62,7 @@ returns-clause-ok c = record {
       some-undo c.in_ok-change.change (subst (λ e. UndoRestores (Rows c.docs.result c.args.self.now.bytes) e c.args.self.now) (sym engine)
       (undo-docs c.args.self.now (docs_from (length c.args.self.now.index.docs + 1) c.in_ok-moment.moment c.in_ok-moment.texts)
       c.add_docs.new.self.hits (c.args.self.now.bytes + bytes_of_all c.in_ok-moment.texts)
-      c.docs.result c.docs.ensures.count c.add_docs.ensures.more));
+      c.docs.result c.docs.ensures.count c.add_docs.ensures.more c.add_docs.ensures.fronts));
   ready = let engine : c.add_docs.new.self ≡ record c.args.self.now {
     index =
         after c.args.self.now.index (Docs (docs_from (length c.args.self.now.index.docs + 1) c.in_ok-moment.moment c.in_ok-moment.texts));
@@ -84,7 +84,7 @@ returns-clause-ok c = record {
       (ready-docs c.args.self.now c.add_docs.new.self.hits c.in_ok-moment.texts (c.args.self.now.bytes + bytes_of_all c.in_ok-moment.texts)
       c.requires.ready (mbox-moment c.args.self.now c.args.block c.in_ok-moment.ensures.checks)
       (subst (λ m. length (c.args.self.now.index.docs ++ docs_from (length c.args.self.now.index.docs + 1) m c.in_ok-moment.texts)
-      ≤ c.add_docs.new.self.hits.room) c.in_ok-moment.ensures.moment room)));
+      ≤ c.add_docs.new.self.hits.room) c.in_ok-moment.ensures.moment room) c.add_docs.ensures.fronts));
   running = search rules;
   short = search rules;
   accepted = search rules;

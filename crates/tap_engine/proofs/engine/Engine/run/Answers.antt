@@ -10,6 +10,7 @@ use Rattle.tap_engine.specs.Ready.{IsReady}
 use Rattle.tap_model.proofs.SoundLaws.{sound-asked}
 use Rattle.tap_engine.specs.declared.engine.Engine.{Engine}
 use Rattle.tap_kept.specs.declared.cached_query.CachedQuery.{CachedQuery}
+use Rattle.tap_kept.proofs.BoxFrontLaws.{fronts-run}
 use Rattle.tap_engine.specs.Answering.{IsUnchangedButHits, UndoRestores, undo_run}
 use Rattle.tap_engine.proofs.UndoLaws.{for-memory}
 use Rattle.tap_engine.proofs.CheckLaws.{run-verdict, run-refuses, run-moment}
@@ -145,7 +146,7 @@ returns-clause-ok g c = record {
       subst (λ undo. UndoRestores undo c.deliver.new.self e) (sym (c.undo_run-undo.ensures d.kept
       ∙ ap (λ k. undo_run k (due.query.0 - 1) (slice_index_or k.queries (due.query.0 - 1) d.kept)) same))
       (undo-run e c.deliver.new.self c.due_run.new.self.hits (due.query.0 - 1) due.moment (map (entry_at (due.runs + 1)) due.hits)
-      (e.run_count + 1) (e.pick_count + length due.hits) d.kept place c.due_run.ensures.still.room
+      (e.run_count + 1) (e.pick_count + length due.hits) d.kept place c.due_run.ensures.still.room c.due_run.ensures.still.fronts
       (raw d.kept ∙ ap (λ k. next k d.kept) same));
   ready = let e = c.args.self.now in
       let due = c.in_ok-due.due in
@@ -161,6 +162,8 @@ returns-clause-ok g c = record {
             d.kept ready.queries (search (rules, moment));
         moment = ready.moment;
         room = ready.room;
+        fronts = fronts-run c.due_run.new.self.index.docs (due.query.0 - 1) c.due_run.new.self.queries _ _ d.kept
+            c.due_run.new.self.hits.fronts ready.fronts;
       });
   running = let d = due-at c.args.self.now c.args.name.now c.in_ok-due.due c.requires.ready c.in_ok-due.ensures.due in
       ap (λ e. e.stopped) (c.in_ok-change.ensures.engine d.kept) ∙ ap (λ e. e.stopped) c.due_run.ensures.still.same;
