@@ -37,7 +37,7 @@ use Rattle.query_eval.specs.declared.fronts.Front.{Front}
 use Rattle.query_eval.specs.declared.fronts.Fronts.{Fronts}
 use Rattle.query_eval.specs.Lowest.{keeping}
 use Rattle.query_eval.specs.Fronts.{IsDone, BeginsWith, IsPassed, AreDoneDocs, AreDocsBehind, AreBehind}
-use Rattle.query_eval.specs.BoxFronts.{IsInBox, AreBoxed, IsBoxed}
+use Rattle.query_eval.specs.BoxFronts.{IsInBox, IsBoxedFront, IsBoxed}
 use Rattle.query_eval.specs.RunFronts.{IsFrontOf, IsKnownFront, IsFrontPassed, ArePassed, AreDone}
 use Rattle.query_eval.proofs.StableHits.{done_stays, done_later, done_by_box}
 use Rattle.query_eval.proofs.Steps.{keeping_append}
@@ -127,7 +127,7 @@ sorted_behind n docs s =
     record { arrivals = rising_behind doc_arrival n docs s.arrivals; numbers = rising_behind doc_rank n docs s.numbers }
 
 -- as many documents as are in the box are done at each mark
-pub boxed_done : (entries : List Entry) (n : ℕ) (kept : List Hit) (b : ℤ) (len : ℕ) (list : List Doc) → AreBoxed entries len list
+pub boxed_done : (entries : List Entry) (n : ℕ) (kept : List Hit) (b : ℤ) (len : ℕ) (list : List Doc) → IsBoxedFront entries len list
     → Each (IsDone entries n kept b) (take len list)
 boxed_done entries n kept b len list h =
     each-map (λ (d : Doc). is_in d.num.0 entries ≡ true) (IsDone entries n kept b) (take len list)
@@ -135,8 +135,8 @@ boxed_done entries n kept b len list h =
     h.boxed
 
 -- one more at the end of a front that is in the box
-pub boxed_more : (entries : List Entry) (list : List Doc) (len : ℕ) → AreBoxed entries len list → len < length list
-    → ((d : Doc) → slice_get list len ≡ Some d → is_in d.num.0 entries ≡ true) → AreBoxed entries (len + 1) list
+pub boxed_more : (entries : List Entry) (list : List Doc) (len : ℕ) → IsBoxedFront entries len list → len < length list
+    → ((d : Doc) → slice_get list len ≡ Some d → is_in d.num.0 entries ≡ true) → IsBoxedFront entries (len + 1) list
 boxed_more entries list len h l f = record {
   there = omega (arith, l);
   boxed = each_longer (λ (d : Doc). is_in d.num.0 entries ≡ true) list len h.boxed f;
@@ -289,8 +289,8 @@ module _ (docs : List Doc) (kind : ListKind) (key : ListKey) (list : List Doc) (
       → Each (IsDone entries n kept b) (take len list)
   known_here entries n kept b len p = of_this_list (λ ds. Each (IsDone entries n kept b) (take len ds)) p.done
 
-  pub boxed_known : (entries : List Entry) (len : ℕ) → IsBoxed entries docs kind first.0 len → AreBoxed entries len list
-  boxed_known entries len p = of_this_list (AreBoxed entries len) p.lists
+  pub boxed_known : (entries : List Entry) (len : ℕ) → IsBoxed entries docs kind first.0 len → IsBoxedFront entries len list
+  boxed_known entries len p = of_this_list (IsBoxedFront entries len) p.lists
 
   module _ (single : is_single_kind kind ≡ true) (stand : InPlace doc_number doc_arrival docs) where
     meet : (other : ListKey) (ls os : List Doc) → kind_of other ≡ kind_of key → docs_under key docs ≡ ls → docs_under other docs ≡ os
@@ -314,8 +314,8 @@ module _ (docs : List Doc) (kind : ListKind) (key : ListKey) (list : List Doc) (
         → IsPassed entries docs n kept kind first.0 b len
     passed_here entries n kept b len h = record { done = of_each_list (λ ds. Each (IsDone entries n kept b) (take len ds)) h }
 
-    pub boxed_here : (entries : List Entry) (len : ℕ) → AreBoxed entries len list → IsBoxed entries docs kind first.0 len
-    boxed_here entries len h = record { lists = of_each_list (AreBoxed entries len) h }
+    pub boxed_here : (entries : List Entry) (len : ℕ) → IsBoxedFront entries len list → IsBoxed entries docs kind first.0 len
+    boxed_here entries len h = record { lists = of_each_list (IsBoxedFront entries len) h }
 
     -- its first document is stored
     stored_here : first.0 ≤ length docs
@@ -325,7 +325,7 @@ module _ (docs : List Doc) (kind : ListKind) (key : ListKey) (list : List Doc) (
         omega (arith, l)
 
     -- as much of its front as the box holds
-    pub box_front_passed : (entries : List Entry) (n : ℕ) (kept : List Hit) (b : ℤ) (len : ℕ) → AreBoxed entries len list
+    pub box_front_passed : (entries : List Entry) (n : ℕ) (kept : List Hit) (b : ℤ) (len : ℕ) → IsBoxedFront entries len list
         → IsFrontPassed entries docs n kept (record { kind = kind; first = first; mark = b; len = len; boxed = len })
     box_front_passed entries n kept b len h = record {
       stored = stored_here;

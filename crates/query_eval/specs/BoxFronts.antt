@@ -33,13 +33,13 @@ abbrev pub AddsFront : BoxFront → List BoxFront → List BoxFront → Type 0
 AddsFront added old new = Each (λ front. In front old ⊎ (front ≡ added)) new
 
 -- that many documents at the front of a list are there and in the box
-pub record AreBoxed (entries : List Entry) (len : ℕ) (docs : List Doc) : Type 0 where
+pub record IsBoxedFront (entries : List Entry) (len : ℕ) (docs : List Doc) : Type 0 where
   pub there : len ≤ length docs
   pub boxed : Each (λ d. is_in d.num.0 entries ≡ true) (take len docs)
 
 -- of each posting list of this kind that begins with this document, that many documents at the front are there and in the box
 pub record IsBoxed (entries : List Entry) (docs : List Doc) (kind : ListKind) (first len : ℕ) : Type 0 where
-  pub lists : (key : ListKey) → kind_of key ≡ kind → BeginsWith first (docs_under key docs) → AreBoxed entries len (docs_under key docs)
+  pub lists : (key : ListKey) → kind_of key ≡ kind → BeginsWith first (docs_under key docs) → IsBoxedFront entries len (docs_under key docs)
 
 -- the front is that of this query and of the list of this kind that begins with this document
 pub record IsBoxFrontOf (query : QueryNum) (kind : ListKind) (first : ℕ) (front : BoxFront) : Type 0 where

@@ -12,7 +12,7 @@ ghost use Rattle.probe_eval.specs.SingleLists.{IsSingleList};
 ghost use Rattle.probe_eval.specs.StepRows.{passes_step, next_rows};
 ghost use Rattle.query_eval.specs.Placed.{CanStoreHits};
 ghost use Rattle.query_eval.specs.Fronts.{IsDone, AreDoneDocs, AreDocsBehind, AreBehind};
-ghost use Rattle.query_eval.specs.BoxFronts.{AreInBox, AreBoxed};
+ghost use Rattle.query_eval.specs.BoxFronts.{AreInBox, IsBoxedFront};
 ghost use Rattle.query_eval.specs.RunFronts.{IsFrontOf, IsFrontPassed, ArePassed, AreDone};
 
 use crate::fronts::{Front, Fronts, LONG};
@@ -92,8 +92,8 @@ fn is_boxed_at(search: &Search, docs: &PostingList, place: usize) -> bool
 // Returns how many documents at the front of the list are in the box, of which the first `len` are
 // known to be.
 fn boxed_from(search: &Search, docs: &PostingList, len: usize) -> usize
-    requires { AreBoxed search.now.seen.now len docs.now }
-    ensures { AreBoxed search.now.seen.now result docs.now }
+    requires { IsBoxedFront search.now.seen.now len docs.now }
+    ensures { IsBoxedFront search.now.seen.now result docs.now }
 {
     let count = docs.len();
     let mut boxed = len;
