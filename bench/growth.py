@@ -96,6 +96,11 @@ def mails_of_one_id(n):
     return "mail\nMessage-ID: <a@ab>\n\nyes\n.\n" * (n // 100)
 
 
+def mails_of_one_sender(n):
+    """A hundredth as many mails of one sender."""
+    return "mail\nFrom: x@x\n\nyes\n.\n" * (n // 100)
+
+
 def asked(text):
     """A query is defined, run and explained."""
     return f"at 300000000\nquery q {text}\nrun q\nexplain q\nwake q\n"
@@ -104,6 +109,11 @@ def asked(text):
 def repeated_reference(n):
     """A mail that has one reference so many times, and a query that looks at the mails it names."""
     return block("mail", ["References:" + " <a@ab>" * n, "", "text"]) + asked("EXISTS (r: DOC WHERE m.references HAS r.msgid AND r.from = 'x@x')")
+
+
+def repeated_address(n):
+    """A mail that has one address so many times, and a query that looks at the mails of that sender."""
+    return block("mail", ["To: " + ",\n ".join(["x@x"] * n), "", "text"]) + asked("EXISTS (r: DOC WHERE m.to HAS r.from AND NOT r.words HAS 'yes')")
 
 
 def nested(n):
@@ -186,6 +196,7 @@ ROWS = [
     ("later of its subject, of which there are 20,000 of one second", 5000, mails_of_one_second, lambda n: asked("EXISTS (r: DOC WHERE r.subject = m.subject AND r.ts > m.ts)")),
     ("a word that none of 20,000 of its subject has", 5000, mails_of_one_subject, lambda n: asked("NOT EXISTS (r: DOC WHERE r.subject = m.subject AND r.words HAS 'withdrawn')")),
     ("one reference 100,000 times, to 1,000 mails", 25000, mails_of_one_id, repeated_reference),
+    ("one address 100,000 times in To, of 1,000 mails", 25000, mails_of_one_sender, repeated_address),
     ("an OR in an OR in an EXISTS, over 20,000 mails", 5000, mails, lambda n: asked(or_in_or())),
     ("64 rules over a box of 10,000", 16, lambda n: mails(10000) + BOX + rules(n), lambda n: "list all\n"),
     ("a listing of 100,000 entries", 25000, lambda n: mails(n) + BOX, lambda n: "list all\n"),
