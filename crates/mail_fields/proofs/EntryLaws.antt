@@ -11,29 +11,28 @@ use Rattle.tap_base.specs.Bytes.{is_blank}
 use Rattle.tap_rows.specs.Headers.{trimmed}
 use Rattle.tap_rows.specs.Entries.{addresses_in, address_of, listed, referred, comma_parts_from}
 use Rattle.mail_fields.specs.Rests.{comma_place}
+use Rattle.mail_fields.specs.declared.entries.EntryEnd.{EntryEnd}
+use Rattle.mail_fields.specs.declared.entries.EntryEnd.TheVariants.{Comma, Blank}
+use Rattle.mail_fields.specs.EntryEnds.{entries_by, entry_length}
 
 abbrev not_empty : List ℕ → Bool
 not_empty entry = not (length entry == 0)
 
 -- the entries of a first part, and then of the others
-pub entries-cons : (part : List ℕ) (parts : List (List ℕ)) → addresses_in (part ∷ parts) ≡ addresses_in (part ∷ []) ++ addresses_in parts
+entries-cons : (part : List ℕ) (parts : List (List ℕ)) → addresses_in (part ∷ parts) ≡ addresses_in (part ∷ []) ++ addresses_in parts
 entries-cons part parts =
     elim (not_empty (str_to_ascii_lowercase (address_of part)))
     as (λ b. (if b then str_to_ascii_lowercase (address_of part) ∷ addresses_in parts else addresses_in parts)
     ≡ (if b then str_to_ascii_lowercase (address_of part) ∷ [] else []) ++ addresses_in parts) [ true ↦ refl | false ↦ refl ]
 
 -- parts between blanks
-pub referred-first : (value : List ℕ) (n : ℕ) → n ≡ position_or_len is_blank value
+referred-first : (value : List ℕ) (n : ℕ) → n ≡ position_or_len is_blank value
     → referred value ≡ addresses_in (take n value ∷ []) ++ referred (drop (n + 1) value)
 referred-first value n e =
     elim (cases_lt n (length value)) [
       | inl lt ↦ rw (first_part is_blank value n e lt) (entries-cons (take n value) (slice_split is_blank (drop (n + 1) value)))
       | inr le ↦ let w = whole_part is_blank value n e le in rw (w.0, w.1) (sym (append-nil _))
     ]
-
-pub referred-step : (all done done' : List (List ℕ)) (value : List ℕ) (n : ℕ) → all ≡ done ++ referred value
-    → n ≡ position_or_len is_blank value → done' ≡ done ++ addresses_in (take n value ∷ []) → all ≡ done' ++ referred (drop (n + 1) value)
-referred-step all done done' value n before e is = before ∙ rw (referred-first value n e, is) (sym (append_assoc done _ _))
 
 -- one more byte
 take-one : (b : ℕ) (value : List ℕ) (m : ℕ) → take (1 + m) (b ∷ value) ≡ b ∷ take m value
@@ -106,14 +105,22 @@ listed-here value =
           (sym (append-nil _))
     ]
 
-pub listed-first : (value : List ℕ) (n : ℕ) → n ≡ comma_place false value
+listed-first : (value : List ℕ) (n : ℕ) → n ≡ comma_place false value
     → listed value ≡ addresses_in (take n value ∷ []) ++ listed (drop (n + 1) value)
 listed-first value n e =
     subst (λ k. listed value ≡ addresses_in (take k value ∷ []) ++ listed (drop (k + 1) value)) (sym e) (listed-here value)
 
-pub listed-step : (all done done' : List (List ℕ)) (value : List ℕ) (n : ℕ) → all ≡ done ++ listed value → n ≡ comma_place false value
-    → done' ≡ done ++ addresses_in (take n value ∷ []) → all ≡ done' ++ listed (drop (n + 1) value)
-listed-step all done done' value n before e is = before ∙ rw (listed-first value n e, is) (sym (append_assoc done _ _))
+-- a value's entries are that of its first part and those of the rest
+entries-first : (end : EntryEnd) (value : List ℕ) (n : ℕ) → n ≡ entry_length end value
+    → entries_by end value ≡ addresses_in (take n value ∷ []) ++ entries_by end (drop (n + 1) value)
+entries-first Comma value n e = listed-first value n e
+entries-first Blank value n e = referred-first value n e
+
+pub entries-step : (end : EntryEnd) (all done done' : List (List ℕ)) (value : List ℕ) (n : ℕ) → all ≡ done ++ entries_by end value
+    → n ≡ entry_length end value → done' ≡ done ++ addresses_in (take n value ∷ [])
+    → all ≡ done' ++ entries_by end (drop (n + 1) value)
+entries-step end all done done' value n before e is = before ∙ ap (λ ys. done ++ ys) (entries-first end value n e)
+    ∙ rw is (sym (append_assoc done _ _))
 
 -- is one of the bytes there?
 any-within : (p : ℕ → Bool) (xs : List ℕ) → position_or_len p xs < length xs → list_any p xs ≡ true

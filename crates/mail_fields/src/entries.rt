@@ -3,12 +3,20 @@ ghost use Rattle.std.specs.Prelude.{◌≡◌, ◌≤◌, ◌<◌, ◌++◌, ◌
 ghost use Rattle.std.specs.Prelude.{take, OnOk, OnErr, IfOk};
 ghost use Rattle.std.specs.List.{list_any, slice_split};
 ghost use Rattle.tap_base.specs.Bytes.{is_blank};
-ghost use Rattle.tap_rows.specs.Entries.{address_of, addresses_in, listed, referred};
+ghost use Rattle.tap_rows.specs.Entries.{address_of, addresses_in};
 ghost use Rattle.mail_fields.specs.Rests.{comma_place};
+ghost use Rattle.mail_fields.specs.EntryEnds.{entries_by, entry_length};
 
 use crate::bytes::{place_of, trim};
 use std::alloc::Global;
 use tap_base::{Memory, Texts, after_byte, blank_place, lower};
+
+// What ends an entry of a field's value: a comma outside quotes, or a blank.
+#[derive(Clone, Copy)]
+pub(crate) enum EntryEnd {
+    Comma,
+    Blank,
+}
 
 // Returns the address of an entry: what is between `<` and `>`, or else what comes before a
 // comment.
@@ -51,26 +59,29 @@ fn comma_len(value: &[u8]) -> usize
     value.len()
 }
 
-// Appends the entries of a value that commas cut, such as a list of addresses.
-pub(crate) fn push_listed(alloc: Global, value: &[u8], into: &mut Texts) -> Result<(), Memory>
-    ensures { OnOk result (into.new ≡ into.old ++ listed value.now) }
+// Returns how many bytes come before the end of the first entry.
+fn entry_len(end: EntryEnd, value: &[u8]) -> usize
+    ensures value { result ≡ entry_length end value.now }
+    ensures within { result ≤ length value.now }
 {
-    let mut rest = value;
-    'parts: while !rest.is_empty() {
-        let len = comma_len(rest);
-        push_entry(alloc, &rest[..len], into)?;
-        rest = after_byte(rest, len);
+    match end {
+        EntryEnd::Comma => comma_len(value),
+        EntryEnd::Blank => blank_place(value),
     }
-    Ok(())
 }
 
-// Appends the entries of a value that blanks cut, such as a list of references.
-pub(crate) fn push_referred(alloc: Global, value: &[u8], into: &mut Texts) -> Result<(), Memory>
-    ensures { OnOk result (into.new ≡ into.old ++ referred value.now) }
+// Appends the entries of a value, such as a list of addresses or of references.
+pub(crate) fn push_entries(
+    alloc: Global,
+    end: EntryEnd,
+    value: &[u8],
+    into: &mut Texts,
+) -> Result<(), Memory>
+    ensures { OnOk result (into.new ≡ into.old ++ entries_by end value.now) }
 {
     let mut rest = value;
     'parts: while !rest.is_empty() {
-        let len = blank_place(rest);
+        let len = entry_len(end, rest);
         push_entry(alloc, &rest[..len], into)?;
         rest = after_byte(rest, len);
     }

@@ -17,6 +17,10 @@ value_of name header = first_of (values_of name header)
 abbrev pub entry_of : (List ℕ → List (List ℕ)) → Option (List ℕ) → Option (List ℕ)
 entry_of entries value = option_and_then (λ v. first_of (entries v)) value
 
+-- the distinct entries of some fields' values, in order of first appearance
+abbrev pub distinct_entries : (List ℕ → List (List ℕ)) → List (List ℕ) → List (List ℕ)
+distinct_entries entries values = with_new [] (flat_map entries values)
+
 -- the distinct words, in order of first appearance: the subject's, then those of the body's lines
 abbrev pub message_words : Option (List ℕ) → List (List ℕ) → List (List ℕ)
 message_words subject body = with_new [] (flat_map words (option_to_list subject ++ body))
@@ -29,10 +33,10 @@ fields_in header body size = record {
   subject = value_of (codes "Subject") header;
   msgid = entry_of identified (value_of (codes "Message-ID") header);
   inreplyto = entry_of identified (value_of (codes "In-Reply-To") header);
-  to = flat_map listed (values_of (codes "To") header);
-  cc = flat_map listed (values_of (codes "Cc") header);
-  newsgroups = flat_map listed (values_of (codes "Newsgroups") header);
-  references = with_new [] (flat_map referred (values_of (codes "References") header));
+  to = distinct_entries listed (values_of (codes "To") header);
+  cc = distinct_entries listed (values_of (codes "Cc") header);
+  newsgroups = distinct_entries listed (values_of (codes "Newsgroups") header);
+  references = distinct_entries referred (values_of (codes "References") header);
   words = message_words (value_of (codes "Subject") header) body;
   size = size;
 }
