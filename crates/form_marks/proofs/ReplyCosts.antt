@@ -14,7 +14,7 @@ use Rattle.tql_core.specs.declared.atom.Atom.{Atom}
 use Rattle.tql_core.specs.declared.atom.Atom.TheVariants.{Texts, Times}
 use Rattle.tql_core.specs.declared.atom.TextExpr.TheVariants.{Field}
 use Rattle.tql_core.specs.declared.atom.TextField.TheVariants.{MsgId, InReplyTo}
-use Rattle.tql_core.specs.Condition.{Condition, Plain, All, Exists}
+use Rattle.tql_core.specs.Condition.{Condition, Always, Plain, All, Exists}
 use Rattle.tql_core.specs.Row.{Row, OfDoc, rows_of}
 use Rattle.tql_core.specs.Scope.{AtomIn}
 use Rattle.tql_core.specs.Values.{Env, bind, text, text_field, both_texts, true_atom}
@@ -44,7 +44,8 @@ use Rattle.probe_eval.proofs.Members.{in_filter}
 use Rattle.probe_eval.proofs.ShortestLaws.{filter_less}
 use Rattle.monotone_rewrite.specs.Query.{window}
 use Rattle.query_form.specs.Form.{form_of}
-use Rattle.form_marks.specs.Replies.{reply_var, has_reply, HasDistinctIds, probe_cost, RepliesTakeThreeSteps}
+use Rattle.incremental_rewrite.specs.Witness.{bare_probes}
+use Rattle.form_marks.specs.Replies.{reply_var, has_reply, HasDistinctIds, probe_cost, RepliesTakeTwoSteps}
 
 -- the reply of a path
 abbrev path_var : Var
@@ -66,14 +67,14 @@ inner_part at = All (Plain (Times (arrival_term reply_var) Le at)) (Plain (Texts
 abbrev reply_body : Term → Condition
 reply_body at = Exists reply_var Docs (inner_part at)
 
--- the probe of new documents, and that of new replies
+-- the probe of new documents, and that of new replies, which need no body
 abbrev first_probe : Probe
 first_probe = record { path = asked_step ∷ []; at = arrival_term document_var; body = reply_body (arrival_term document_var) }
 
 abbrev second_probe : Probe
-second_probe = record { path = asked_step ∷ reply_step ∷ []; at = arrival_term path_var; body = reply_body (arrival_term path_var) }
+second_probe = record { path = asked_step ∷ reply_step ∷ []; at = arrival_term path_var; body = Always }
 
-the_probes : distinct_probes (window (form_of has_reply) (pos 0)) ≡ first_probe ∷ second_probe ∷ []
+the_probes : distinct_probes (bare_probes (window (form_of has_reply) (pos 0))) ≡ first_probe ∷ second_probe ∷ []
 the_probes = refl
 
 first_is_probe : IsProbe first_probe
@@ -102,7 +103,7 @@ second_is_probe = record {
     | inr x ↦ elim x [ inl e ↦ reply_scoped a (subst (λ (s : Step). In a s.guards) e j) | inr y ↦ absurd y ]
   ];
   at = inr (inl refl);
-  body = (omega arith, omega arith, ((inl refl, inr (inr (inl refl))), (inl refl, inr (inl refl))));
+  body = tt;
 }
 
 self_le : (n : ℕ) → nat_le n n ≡ true
@@ -218,29 +219,26 @@ arrived_count T w = mapped_length OfDoc (in_window doc_arrival (w.low +ℤ neg_�
     same : (x : ℤ) → x +ℤ neg_ℤ (pos 0) ≡ x
     same x = omega (arith, ints)
 
-two_are_three : (cost n m : ℕ) → n ≡ m → cost ≤ n * 2 → cost ≤ m * 3
-two_are_three cost n m e h = omega (arith, e, h)
+counted_two : (cost n m : ℕ) → n ≡ m → cost ≤ n * 2 → cost ≤ m * 2
+counted_two cost n m e h = omega (arith, e, h)
 
-three_are_three : (cost n m : ℕ) → n ≡ m → cost ≤ n * 3 → cost ≤ m * 3
-three_are_three cost n m e h = omega (arith, e, h)
-
-pub replies_take_three_steps : RepliesTakeThreeSteps
-replies_take_three_steps entries T w p d i = go (subst (λ X. In p X) the_probes i)
+pub replies_take_two_steps : RepliesTakeTwoSteps
+replies_take_two_steps entries T w p d i = go (subst (λ X. In p X) the_probes i)
   where
     count : ℕ
     count = length (in_window doc_arrival w.low w.high T.docs)
 
-    first : probe_cost entries T w first_probe ≤ count * 3
-    first = two_are_three _ _ count (arrived_count T w)
+    first : probe_cost entries T w first_probe ≤ count * 2
+    first = counted_two _ _ count (arrived_count T w)
         (probes_by_index_are_linear entries T w first_probe document_var [] 0 1 first_is_probe refl refl (first_short T) (λ env t.
         body_less T (arrival_term document_var) refl env))
 
-    second : probe_cost entries T w second_probe ≤ count * 3
-    second = three_are_three _ _ count (arrived_count T w)
-        (probes_by_index_are_linear entries T w second_probe path_var (order_of second_probe.path second_probe.at.base) 1 1 second_is_probe
-        refl refl (second_short T d) (λ env t. body_less T (arrival_term path_var) refl env))
+    second : probe_cost entries T w second_probe ≤ count * 2
+    second = counted_two _ _ count (arrived_count T w)
+        (probes_by_index_are_linear entries T w second_probe path_var (order_of second_probe.path second_probe.at.base) 1 0 second_is_probe
+        refl refl (second_short T d) (λ env t. omega arith))
 
-    go : In p (first_probe ∷ second_probe ∷ []) → probe_cost entries T w p ≤ count * 3
-    go (inl e) = subst (λ z. probe_cost entries T w z ≤ count * 3) (sym e) first
-    go (inr (inl e)) = subst (λ z. probe_cost entries T w z ≤ count * 3) (sym e) second
+    go : In p (first_probe ∷ second_probe ∷ []) → probe_cost entries T w p ≤ count * 2
+    go (inl e) = subst (λ z. probe_cost entries T w z ≤ count * 2) (sym e) first
+    go (inr (inl e)) = subst (λ z. probe_cost entries T w z ≤ count * 2) (sym e) second
     go (inr (inr j)) = absurd j

@@ -22,6 +22,7 @@ use Rattle.access_plan.specs.Orders.{order_of}
 use Rattle.probe_eval.specs.Drivers.{seek_var, seek_cost}
 use Rattle.monotone_rewrite.specs.Query.{window}
 use Rattle.query_form.specs.Form.{form_of}
+use Rattle.incremental_rewrite.specs.Witness.{bare_probes}
 
 -- the variable of a reply
 abbrev pub reply_var : Var
@@ -43,10 +44,10 @@ HasDistinctIds T = (id : List ℕ) → length (docs_of_id T id) ≤ 1
 abbrev pub probe_cost : List Entry → Tables → Window → Probe → ℕ
 probe_cost entries T w p = seek_cost entries T w p (order_of p.path p.at.base) (seek_of p.at) (seek_var (seek_of p.at))
 
--- then each probe by which that query runs takes at most three steps for each document that arrived in the window, however many
+-- then each probe by which that query runs takes at most two steps for each document that arrived in the window, however many
 -- documents there are
-abbrev pub RepliesTakeThreeSteps : Type 0
-RepliesTakeThreeSteps =
+abbrev pub RepliesTakeTwoSteps : Type 0
+RepliesTakeTwoSteps =
     (entries : List Entry) (T : Tables) (w : Window) (p : Probe) → HasDistinctIds T
-    → In p (distinct_probes (window (form_of has_reply) (pos 0)))
-    → probe_cost entries T w p ≤ length (in_window doc_arrival w.low w.high T.docs) * 3
+    → In p (distinct_probes (bare_probes (window (form_of has_reply) (pos 0))))
+    → probe_cost entries T w p ≤ length (in_window doc_arrival w.low w.high T.docs) * 2

@@ -1,2 +1,4 @@
+pub mod Grown
 pub mod Kept
 pub mod Lined
+pub mod Witnesses

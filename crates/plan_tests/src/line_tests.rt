@@ -14,12 +14,13 @@ ghost use Rattle.tql_core.specs.Condition.{NowBefore};
 ghost use Rattle.monotone_rewrite.specs.Query.{CanRewriteFrom};
 
 use crate::conditions::{arrival, both, for_no_note};
-use incremental_rewrite::{incremental, render};
+use incremental_rewrite::{bare, incremental, render};
 use monotone_rewrite::monotone_from;
 use std::alloc::Global;
 use tap_base::{Memory, Op, Text, Texts};
 use time_marks::RangedQuery;
 use tql_core::{Atom, Base, Cond, ListField, NumExpr, NumField, Term, TextExpr, Var};
+use tql_tree::Table;
 
 // Returns the window query of a condition for the seconds from the start on.
 fn rewritten(alloc: Global, cond: &Cond, start: i64) -> Result<RangedQuery, Memory>
@@ -35,6 +36,18 @@ fn explained(alloc: Global, cond: Cond, start: i64) -> Result<Texts, Memory>
     let ranged = rewritten(alloc, &cond, start);
     drop(cond);
     let ranged = ranged?;
+    let lines = render(alloc, &ranged);
+    drop(ranged);
+    lines
+}
+
+// Returns the lines of a condition without the bodies that the rows of their paths make true.
+fn bare_lines(alloc: Global, cond: Cond) -> Result<Texts, Memory>
+    requires { CanRewriteFrom (condition cond) (pos 0) }
+{
+    let query = monotone_from(alloc, &cond, 0);
+    drop(cond);
+    let ranged = incremental(alloc, bare(alloc, query?)?)?;
     let lines = render(alloc, &ranged);
     drop(ranged);
     lines
@@ -66,6 +79,19 @@ fn unnoted(alloc: Global) -> Result<Cond, Memory>
     let young = Cond::NowBefore(arrival(1, 5));
     let noted = both(alloc, on, young)?;
     for_no_note(alloc, noted)
+}
+
+// Returns the condition that there is a note on the message.
+fn noted(alloc: Global) -> Result<Cond, Memory>
+    ensures { IfOk result (λ cond. condition cond ≡ Exists (record { 0 = 1 }) Notes
+        (Plain (Numbers (Field (record { 0 = 1 }) DocOf) Eq (Field (record { 0 = 0 }) Id)))) }
+{
+    let on = Cond::Plain(Atom::Numbers(
+        NumExpr::Field(Var(1), NumField::DocOf),
+        Op::Eq,
+        NumExpr::Field(Var(0), NumField::Id),
+    ));
+    Ok(Cond::Exists(Var(1), Table::Notes, Box::new(alloc, on)?))
 }
 
 // Returns the condition that the day of now began after the message came.
@@ -154,6 +180,21 @@ fn a_start_has_its_line(rt: HostRuntime) -> Result<(), Memory> {
         lines.as_slice()[1].as_slice(),
         b"OVER m: DOC [m.words HAS 'hi'] AT TIME 110 WHERE m.words HAS 'hi'".as_slice()
     );
+    drop(lines);
+    Ok(())
+}
+
+#[test]
+fn a_body_that_its_path_makes_true_is_true(rt: HostRuntime) -> Result<(), Memory> {
+    let alloc = rt.alloc();
+    let cond = noted(alloc)?;
+    let lines = bare_lines(alloc, cond)?;
+    assert_eq!(rt; lines.len(), 2);
+    let asked: &[u8] = b"OVER m: DOC AT m.ts WHERE \
+        EXISTS (v1: NOTE WHERE v1.ts <= m.ts AND v1.doc = m.id)";
+    let bare: &[u8] = b"OVER m: DOC, p1: NOTE [p1.doc = m.id] AT p1.ts WHERE TRUE";
+    assert_eq!(rt; lines.as_slice()[0].as_slice(), asked);
+    assert_eq!(rt; lines.as_slice()[1].as_slice(), bare);
     drop(lines);
     Ok(())
 }

@@ -13,7 +13,7 @@ ghost use Rattle.tap_model.specs.Queries.{lines_of};
 ghost use Rattle.tap_base.specs.Numbers.{IsMoment};
 
 use access_plan::{Plan, plan};
-use incremental_rewrite::{incremental, render};
+use incremental_rewrite::{bare, incremental, render};
 use monotone_rewrite::monotone_from;
 use query_form::form_of;
 use restart_core::cut_start;
@@ -57,8 +57,8 @@ fn start_of(row: &QueryRow) -> i64
     }
 }
 
-// Plans the window query of a condition's form from a start on. The window query has no probe
-// twice, and its marks are solved.
+// Plans the window query of a condition's form from a start on. The plan has no body that the rows
+// of its path make true and no probe twice, and its marks are solved.
 pub(crate) fn make_plan(alloc: Global, cond: &Cond, start: i64) -> Result<Plan, Memory>
     requires scoped { IsQuery (condition cond.now) }
     requires bounded { are_bounded (condition cond.now) ≡ true }
@@ -70,7 +70,8 @@ pub(crate) fn make_plan(alloc: Global, cond: &Cond, start: i64) -> Result<Plan, 
 {
     let form = form_of(alloc, cond)?;
     let query = monotone_from(alloc, &form, start)?;
-    let ranged = incremental(alloc, query)?;
+    let bare = bare(alloc, query)?;
+    let ranged = incremental(alloc, bare)?;
     let made = plan(alloc, ranged)?;
     Ok(made)
 }

@@ -13,11 +13,9 @@ use Rattle.tap_rows.specs.Results.{Truth, is_given, first_second, is_before, put
 use Rattle.tap_rows.proofs.SecondsLaws.{least_second-is, least_second-never}
 use Rattle.tql_core.specs.Holds.{truth_of}
 use Rattle.time_marks.specs.declared.window.Window.{Window}
-use Rattle.time_marks.specs.Distinct.{distinct_probes}
 use Rattle.time_marks.specs.Probes.{least}
-use Rattle.monotone_rewrite.specs.Query.{window}
-use Rattle.query_form.specs.Form.{form_of}
 use Rattle.tap_model.specs.Asks.{AsksAreRuns}
+use Rattle.tap_model.specs.Queries.{probes_from}
 use Rattle.tap_model.proofs.FormLaws.{form_is_union}
 use Rattle.tap_model.proofs.WindowLaws.{from-zero}
 
@@ -104,7 +102,7 @@ only_second truth T s d = go (is_given truth T d s) refl
 
 pub asks_are_runs : AsksAreRuns
 asks_are_runs c s T query positive arrived =
-    let X = distinct_probes (window (form_of c) s) in
+    let X = probes_from c s in
     let w : Window = record { low = s; high = s +ℤ pos 1 } in
     let g = λ (d : Doc). is_given (truth_of c) T d s in
     ap (map (λ (h : Hit). h.doc))

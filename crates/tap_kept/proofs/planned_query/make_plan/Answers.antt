@@ -21,5 +21,5 @@ monotone_from-requires c =
     }
 
 pub returns-clause-scopes : goal.returns-clause-scopes
-returns-clause-scopes c = probes-kept c.in_ok-query.query c.in_ok-ranged.ranged c.in_ok-made.made.query c.in_ok-query.ensures.scopes
-    c.in_ok-ranged.ensures.distinct c.in_ok-made.ensures.query
+returns-clause-scopes c = probes-kept c.in_ok-query.query c.in_ok-bare.bare c.in_ok-ranged.ranged c.in_ok-made.made.query
+    c.in_ok-query.ensures.scopes c.in_ok-bare.ensures.probes c.in_ok-ranged.ensures.distinct c.in_ok-made.ensures.query
