@@ -209,6 +209,10 @@ module _ (T : Tables) (a : Access) (v : Var) (env : Env) (guards : List Atom) wh
       go true = n ∙ sym (ap (filter (passes_cuts v env guards)) n)
       go false = refl
 
+  pub none_cut : is_list a ≡ true → (is_list a ≡ false) ⊎ (all ≡ []) → [] ≡ cut_rows a v env guards all
+  none_cut l (inl n) = absurd (false≢true (sym n ∙ l))
+  none_cut l (inr n) = no_list_cut [] (sym n) (inr n)
+
   pub list_cut : (docs left : List Doc) → IsListOf T a env docs → left ≡ filter (λ d. passes_cuts v env guards (OfDoc d)) docs
       → map OfDoc left ≡ cut_rows a v env guards all
   list_cut docs left l e =

@@ -72,7 +72,7 @@ pub(crate) fn body_holds<'a, L: Ledger>(
 
 // Returns `None` if the condition at the number is true over all rows, and else what makes it
 // false: itself, or a conjunct of it, or of the inner condition of an EXISTS that is a conjunct and
-// whose variable it doesn't name. It stops at the first row that decides an EXISTS. From the second
+// whose variable it doesn't name. It stops at the first row that decides an EXISTS. From the third
 // row on, the conjuncts that don't name the variable of the EXISTS are evaluated once. It takes no
 // memory.
 #[cycle(bodies)]
@@ -146,6 +146,43 @@ fn why_no_row<'a, L: Ledger>(
     ensures more { steps.old ≤ steps.new }
 {
     let mut rows = rows_left(search, body, inner, var, table, env);
+    match rows.next(steps) {
+        None => Some(inner),
+        Some(row) => {
+            if body_holds(search, inner, &env.bind(var, row), steps) {
+                None
+            } else {
+                why_no_second(search, inner, var, rows, env, steps)
+            }
+        }
+    }
+}
+
+// Returns `None` if the condition at the number is true with one of the rows, and else what makes
+// an EXISTS false that has no other rows. With the first of these rows it is evaluated whole: if
+// there are no more, that costs less than to look for the conjuncts that name the variable.
+#[cycle(bodies)]
+fn why_no_second<'a, L: Ledger>(
+    search: &Search<'a>,
+    inner: NodeId,
+    var: Var,
+    mut rows: RowWalk<'a>,
+    env: &Env<'a>,
+    steps: &mut Steps<L>,
+) -> Option<NodeId>
+    requires { CanEvaluateInner search.now inner.0 env.now }
+    ensures truth { is_none result ≡ list_any
+        (λ row. truth search.now.index.now (pos 0) (condition_at search.now inner.0)
+        (bind var row env.now)) rows.entry }
+    ensures why { (table : Table)
+        → truth search.now.index.now (pos 0)
+        (Exists var table (condition_at search.now inner.0)) env.now ≡ false
+        → IfSome result (λ why.
+        IsWhyFalse search.now (Exists var table (condition_at search.now inner.0)) env.now why.0) }
+    ensures steps { steps.new ≤ steps.old + exists_work search.now.index.now var
+        (condition_at search.now inner.0) env.now rows.entry }
+    ensures more { steps.old ≤ steps.new }
+{
     match rows.next(steps) {
         None => Some(inner),
         Some(row) => {

@@ -11,7 +11,7 @@ ghost use Rattle.probe_eval.specs.Work.{all_rows_by, cut_rows, reached};
 use crate::Search;
 use crate::access_rows::all_rows_by;
 use crate::cuts::left_docs;
-use crate::lists::{shortest, text_list};
+use crate::lists::{is_list, shortest, text_list};
 use crate::row_walk::RowWalk;
 use access_plan::AccessRef;
 use node_pool::NodeId;
@@ -32,8 +32,11 @@ fn cut_list<'a>(
         env.now (guards_of (condition_at search.now inner.0))
         (all_rows_by (access_at access.entry) env.now search.now.index.now) }
 {
+    if !is_list(access) {
+        return all_rows_by(access, env, search.index);
+    }
     match text_list(access, env, search.index) {
-        None => all_rows_by(access, env, search.index),
+        None => RowWalk::none(),
         Some(docs) => {
             RowWalk::of_docs(left_docs(&search.plan.query.pool, inner, var, env, docs).walk())
         }

@@ -181,8 +181,11 @@ fn other_length<'a>(access: AccessRef<'a>, env: &Env<'a>, index: &'a RowIndex) -
 fn length_of<'a>(access: AccessRef<'a>, env: &Env<'a>, index: &'a RowIndex) -> u128
     ensures { result ≡ access_length index.now env.now (access_at access.entry) }
 {
+    if !is_list(access) {
+        return other_length(access, env, index);
+    }
     match text_list(access, env, index) {
-        None => other_length(access, env, index),
+        None => 0,
         Some(docs) => docs.len() as u128,
     }
 }

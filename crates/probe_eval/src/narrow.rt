@@ -232,8 +232,11 @@ pub fn step_rows<'a>(
 ) -> RowWalk<'a>
     ensures { result ≡ step_rows (access_at access.entry) var mark env.now path.now index.now }
 {
+    if !is_list(access) {
+        return rows_by(access, mark, env, index);
+    }
     match text_list(access, env, index) {
-        None => other_rows(access, mark, env, index),
+        None => RowWalk::none(),
         Some(docs) => RowWalk::of_docs(docs_beside(path, var, docs, mark, env).walk()),
     }
 }

@@ -1,12 +1,14 @@
 //! Guards that can be evaluated already, while rows of a path are still looked for.
 
-ghost use Rattle.std.specs.Prelude.{◌≡◌, ◌&&◌};
+ghost use Rattle.std.specs.Prelude.{◌≡◌};
+ghost use Rattle.access_plan.specs.Accesses.{is_held};
 ghost use Rattle.access_plan.specs.Views.{is_known};
-ghost use Rattle.probe_eval.specs.Open.{base_known, number_known, text_known, atom_known, may_hold};
+ghost use Rattle.probe_eval.specs.Open.{base_known, number_known, text_known, atom_known};
+ghost use Rattle.probe_eval.specs.Open.{atom_held, may_hold};
 ghost use Rattle.probe_eval.specs.Open.{are_open, path_open, may_go};
 ghost use Rattle.probe_eval.specs.Open.{is_apart, are_apart, path_apart};
 
-use access_plan::Known;
+use access_plan::{Known, is_held};
 use time_marks::Step;
 use tql_core::{Atom, Base, Env, NumExpr, TextExpr, Var, true_atom};
 
@@ -55,11 +57,57 @@ pub(crate) fn atom_known(known: Known, guard: &Atom) -> bool
     }
 }
 
-// Returns whether the guard is true, or can't be evaluated yet.
+// Returns whether the variable of the time has a row.
+fn base_held(env: &Env, base: Base) -> bool
+    ensures { result ≡ base_known (is_held env.now) base }
+{
+    match base {
+        Base::Arrival(var) => is_held(env, var),
+        Base::Date(var) => is_held(env, var),
+        Base::Fixed => true,
+        Base::ArrivalDay(var, _) => is_held(env, var),
+        Base::DateDay(var, _) => is_held(env, var),
+    }
+}
+
+// Returns whether the variable of the number has a row.
+fn number_held(env: &Env, e: NumExpr) -> bool
+    ensures { result ≡ number_known (is_held env.now) e }
+{
+    match e {
+        NumExpr::Literal(_) => true,
+        NumExpr::Field(var, _) => is_held(env, var),
+    }
+}
+
+// Returns whether the variable of the text has a row.
+fn text_held(env: &Env, e: &TextExpr) -> bool
+    ensures { result ≡ text_known (is_held env.now) e.now }
+{
+    match e {
+        TextExpr::Literal(_) => true,
+        TextExpr::Field(var, _) => is_held(env, *var),
+    }
+}
+
+// Returns whether each variable of the guard has a row.
+fn atom_held(env: &Env, guard: &Atom) -> bool
+    ensures { result ≡ atom_held env.now guard.now }
+{
+    match guard {
+        Atom::Numbers(x, _, y) => number_held(env, *x) && number_held(env, *y),
+        Atom::Texts(x, _, y) => text_held(env, x) && text_held(env, y),
+        Atom::Has(var, _, y) => is_held(env, *var) && text_held(env, y),
+        Atom::Times(x, _, y) => base_held(env, x.base) && base_held(env, y.base),
+    }
+}
+
+// Returns whether the guard is true, or can't be evaluated yet. Most guards that can be evaluated
+// are true, so that is asked first.
 fn may_hold<'a>(env: &Env<'a>, guard: &'a Atom) -> bool
     ensures { result ≡ may_hold env.now guard.now }
 {
-    !atom_known(Known::Held(env), guard) || true_atom(guard, env)
+    true_atom(guard, env) || !atom_held(env, guard)
 }
 
 // Returns whether each guard is true, or can't be evaluated yet.
@@ -124,19 +172,4 @@ pub(crate) fn may_go<'a>(path: &'a [Step], mark: i64, env: &Env<'a>) -> bool
     ensures { result ≡ may_go path.now mark env.now }
 {
     env.come_by(mark) && path_open(path, env)
-}
-
-/// Returns whether one row of the variable decides for all of them in a search for the rest of the
-/// path beside `env`: it may go on, and no guard names the variable and another one that has no row
-/// yet.
-pub(crate) fn is_like_others<'a>(
-    path: &'a [Step],
-    mark: i64,
-    env: &Env<'a>,
-    var: Var,
-    more: &Env<'a>,
-) -> bool
-    ensures { result ≡ may_go path.now mark more.now && path_apart path.now env.now var }
-{
-    may_go(path, mark, more) && path_apart(path, env, var)
 }

@@ -1,15 +1,16 @@
 //! Whether the rest of a path exists beside some rows.
 
-ghost use Rattle.std.specs.Prelude.{◌≡◌, ◌+◌, ◌≤◌, [], length, Option, Some};
+ghost use Rattle.std.specs.Prelude.{◌≡◌, ◌+◌, ◌≤◌, [], length, true, Option, Some};
 ghost use Rattle.access_plan.specs.declared.reach.Reach.{Reach};
 ghost use Rattle.tap_rows.specs.declared.tables.Tables.{Tables};
 ghost use Rattle.access_plan.specs.Views.{option_reach};
 ghost use Rattle.probe_eval.specs.Nexts.{IsFoundNearest, IsNearestIfKnown};
+ghost use Rattle.probe_eval.specs.Open.{may_go};
 ghost use Rattle.probe_eval.specs.Rests.{further, rest_of, rest_cost};
 
 use crate::Next;
 use crate::narrow::rows_beside;
-use crate::open::{is_like_others, may_go};
+use crate::open::{may_go, path_apart};
 use access_plan::{Reach, ReachRef};
 use row_index::RowIndex;
 use std::sync::ledger::Ledger;
@@ -75,6 +76,48 @@ pub(crate) fn rest_found<'a, L: Ledger>(
     }
 }
 
+// Returns whether there are rows for the rest of the path beside rows that may go on.
+fn rest_open<'a, L: Ledger>(
+    path: &'a [Step],
+    order: &'a [Reach],
+    next: &mut Next<'a>,
+    env: &Env<'a>,
+    mark: i64,
+    index: &'a RowIndex,
+    steps: &mut Steps<L>,
+) -> bool
+    requires room { length env.now + length order.now ≤ 16 }
+    requires open { may_go path.now mark env.now ≡ true }
+    requires next { IsNearestIfKnown path.now env.now next.old }
+    ensures exists { result ≡ rest_of index.now path.now mark order.now env.now }
+    ensures next { IsNearestIfKnown path.now env.now next.new }
+    ensures steps { steps.new ≤ steps.old + rest_cost index.now path.now mark order.now env.now }
+    ensures more { steps.old ≤ steps.new }
+{
+    match next.get(path, env) {
+        None => true,
+        Some(reach) => match order.split_first() {
+            None => false,
+            Some((_, rest)) => {
+                let mut rows = rows_beside(path, reach, next.sole(), mark, env, index);
+                let mut below = Next::Unknown;
+                while let Some(row) = rows.next(steps) {
+                    let more = env.bind(reach.var, row);
+                    if may_go(path, mark, &more) {
+                        if rest_open(path, rest, &mut below, &more, mark, index, steps) {
+                            return true;
+                        }
+                        if path_apart(path, env, reach.var) {
+                            return false;
+                        }
+                    }
+                }
+                false
+            }
+        },
+    }
+}
+
 /// Returns whether there are rows for the rest of the path, arrived by the mark, with which all
 /// guards are true. It stops at the first row that decides: beside it the rest exists, or no guard
 /// names it and a row that is still looked for, so that there is no rest beside any other row of
@@ -99,24 +142,5 @@ pub(crate) fn rest_exists<'a, L: Ledger>(
     if !may_go(path, mark, env) {
         return false;
     }
-    match next.get(path, env) {
-        None => true,
-        Some(reach) => match order.split_first() {
-            None => false,
-            Some((_, rest)) => {
-                let mut rows = rows_beside(path, reach, next.sole(), mark, env, index);
-                let mut below = Next::Unknown;
-                while let Some(row) = rows.next(steps) {
-                    let more = env.bind(reach.var, row);
-                    if rest_exists(path, rest, &mut below, &more, mark, index, steps) {
-                        return true;
-                    }
-                    if is_like_others(path, mark, env, reach.var, &more) {
-                        return false;
-                    }
-                }
-                false
-            }
-        },
-    }
+    rest_open(path, order, next, env, mark, index, steps)
 }

@@ -1,4 +1,4 @@
-use Rattle.std.proofs.Common.{rules, ◌≡◌, ◌+◌, ◌≤◌, ◌∙◌, [], ◌∷◌, pos, Bool, true, false, sym, ap, subst, arith}
+use Rattle.std.proofs.Common.{rules, ◌≡◌, ◌+◌, ◌≤◌, ◌∙◌, [], ◌∷◌, pos, Bool, true, false, refl, sym, ap, subst, arith}
 use Rattle.std.specs.Prelude.{IfSome}
 use Rattle.tql_core.specs.Bindings.{row_of}
 use Rattle.tql_core.specs.Condition.{All, Exists}
@@ -107,8 +107,8 @@ why_no_row-returns-else-body_holds-clause-why g t c =
     (bind c.args.var (row_of c.in-Some.row) c.args.env.now) ≡ false = search rules in
     let a = later_row c.args.search.now.index.now (condition_at c.args.search.now c.args.inner.0) c.args.var c.args.table c.args.env.now
     c.rows_left-rows.result c.rows_left-rows.ensures c.next.new.self (row_of c.in-Some.row) e h in
-    if_false c.args.search.now _ c.args.env.now c.why_no_later.result (a ∙ sym c.why_no_later.ensures.truth)
-    (c.why_no_later.ensures.why c.args.table)
+    if_false c.args.search.now _ c.args.env.now c.why_no_second.result (a ∙ sym c.why_no_second.ensures.truth)
+    (c.why_no_second.ensures.why c.args.table)
 
 pub why_no_row-returns-then-body_holds-clause-steps : goal.why_no_row-returns-then-body_holds-clause-steps
 why_no_row-returns-then-body_holds-clause-steps g t c =
@@ -126,9 +126,39 @@ why_no_row-returns-else-body_holds-clause-steps g t c =
     let h : truth c.args.search.now.index.now (pos 0) (condition_at c.args.search.now c.args.inner.0)
     (bind c.args.var (row_of c.in-Some.row) c.args.env.now) ≡ false = search rules in
     further_steps c.args.search.now.index.now (condition_at c.args.search.now c.args.inner.0) c.args.var c.args.env.now c.args.steps.now
-    c.next.new.steps c.body_holds.new.steps c.why_no_later.new.steps _ c.rows_left-rows.result c.next.new.self (row_of c.in-Some.row)
+    c.next.new.steps c.body_holds.new.steps c.why_no_second.new.steps _ c.rows_left-rows.result c.next.new.self (row_of c.in-Some.row)
     (walked_work c.args.search.now.index.now (condition_at c.args.search.now c.args.inner.0)
     c.args.var c.args.table c.args.env.now c.rows_left-rows.result c.rows_left-rows.ensures) e h s (search rules) (search rules)
+
+pub why_no_second-returns-in-None-clause-why : goal.why_no_second-returns-in-None-clause-why
+why_no_second-returns-in-None-clause-why g t c = λ table f.
+    why_inner c.args.search.now c.args.var table c.args.inner.0 c.args.env.now c.requires.node f
+
+pub why_no_second-returns-else-body_holds-clause-truth : goal.why_no_second-returns-else-body_holds-clause-truth
+why_no_second-returns-else-body_holds-clause-truth g t c =
+    let e : c.args.rows ≡ row_of c.in-Some.row ∷ c.next.new.self = search rules in
+    let h : truth c.args.search.now.index.now (pos 0) (condition_at c.args.search.now c.args.inner.0)
+    (bind c.args.var (row_of c.in-Some.row) c.args.env.now) ≡ false = search rules in
+    let f : Row → Bool = λ row. truth c.args.search.now.index.now (pos 0) (condition_at c.args.search.now c.args.inner.0)
+    (bind c.args.var row c.args.env.now) in
+    c.why_no_later.ensures.truth ∙ sym (any_step f _ _ _ (row_of c.in-Some.row) refl e h)
+
+pub why_no_second-returns-then-body_holds-clause-steps : goal.why_no_second-returns-then-body_holds-clause-steps
+why_no_second-returns-then-body_holds-clause-steps g t c =
+    let e : c.args.rows ≡ row_of c.in-Some.row ∷ c.next.new.self = search rules in
+    let s : c.next.new.steps ≡ c.args.steps.now + 1 = search rules in
+    first_steps c.args.search.now.index.now (condition_at c.args.search.now c.args.inner.0) c.args.var c.args.env.now c.args.steps.now
+    c.next.new.steps c.body_holds.new.steps _ c.args.rows c.next.new.self (row_of c.in-Some.row) (omega arith) e s (search rules)
+
+pub why_no_second-returns-else-body_holds-clause-steps : goal.why_no_second-returns-else-body_holds-clause-steps
+why_no_second-returns-else-body_holds-clause-steps g t c =
+    let e : c.args.rows ≡ row_of c.in-Some.row ∷ c.next.new.self = search rules in
+    let s : c.next.new.steps ≡ c.args.steps.now + 1 = search rules in
+    let h : truth c.args.search.now.index.now (pos 0) (condition_at c.args.search.now c.args.inner.0)
+    (bind c.args.var (row_of c.in-Some.row) c.args.env.now) ≡ false = search rules in
+    further_steps c.args.search.now.index.now (condition_at c.args.search.now c.args.inner.0) c.args.var c.args.env.now c.args.steps.now
+    c.next.new.steps c.body_holds.new.steps c.why_no_later.new.steps _ c.args.rows c.next.new.self (row_of c.in-Some.row)
+    (omega arith) e h s (search rules) (search rules)
 
 pub why_no_later-returns-in-None-clause-why : goal.why_no_later-returns-in-None-clause-why
 why_no_later-returns-in-None-clause-why g t c = λ table f.

@@ -22,22 +22,25 @@ abbrev pub decreases-any_own-loop-row : goal.decreases-any_own-loop-row
 decreases-any_own-loop-row g l = length l.rows
 
 abbrev pub decreases-why_false : goal.decreases-why_false
-decreases-why_false g l = 6 * l.body.0
+decreases-why_false g l = 7 * l.body.0
 
 abbrev pub decreases-body_holds : goal.decreases-body_holds
-decreases-body_holds g l = 6 * l.body.0 + 1
+decreases-body_holds g l = 7 * l.body.0 + 1
 
 abbrev pub decreases-why_fixed_false : goal.decreases-why_fixed_false
-decreases-why_fixed_false g l = 6 * l.body.0 + 1
+decreases-why_fixed_false g l = 7 * l.body.0 + 1
 
 abbrev pub decreases-own_holds : goal.decreases-own_holds
-decreases-own_holds g l = 6 * l.body.0 + 2
+decreases-own_holds g l = 7 * l.body.0 + 2
 
 abbrev pub decreases-any_own : goal.decreases-any_own
-decreases-any_own g l = 6 * l.inner.0 + 3
+decreases-any_own g l = 7 * l.inner.0 + 3
 
 abbrev pub decreases-why_no_later : goal.decreases-why_no_later
-decreases-why_no_later g l = 6 * l.inner.0 + 4
+decreases-why_no_later g l = 7 * l.inner.0 + 4
+
+abbrev pub decreases-why_no_second : goal.decreases-why_no_second
+decreases-why_no_second g l = 7 * l.inner.0 + 5
 
 abbrev pub decreases-why_no_row : goal.decreases-why_no_row
-decreases-why_no_row g l = 6 * l.inner.0 + 5
+decreases-why_no_row g l = 7 * l.inner.0 + 6

@@ -5,7 +5,7 @@ use Rattle.tql_core.specs.Values.{bind}
 use Rattle.probe_eval.specs.Nexts.{IsNearestIfKnown}
 use Rattle.probe_eval.specs.Work.{total, until}
 use Rattle.probe_eval.specs.Rests.{rest_of, decides, rest_cost}
-use Rattle.probe_eval.proofs.rests.+rest_exists.Given as goal
+use Rattle.probe_eval.proofs.rests.+rest_open.Given as goal
 
 abbrev pub invariant-loop-row : goal.invariant-loop-row
 invariant-loop-row g l = record {
@@ -21,5 +21,5 @@ invariant-loop-row g l = record {
 abbrev pub decreases-loop-row : goal.decreases-loop-row
 decreases-loop-row g l = length l.rows
 
-abbrev pub decreases-rest_exists : goal.decreases-rest_exists
-decreases-rest_exists g l = length l.order.now
+abbrev pub decreases-rest_open : goal.decreases-rest_open
+decreases-rest_open g l = length l.order.now
