@@ -2,6 +2,7 @@
 use Rattle.std.proofs.Common.{◌≡◌, ◌∙◌, ◌⊎◌, ◌≤◌, ℕ, zero, suc, Bool, Some, None, List, [], ◌∷◌, ◌++◌, length, refl, sym}
 use Rattle.std.proofs.Common.{ap, subst, inl, inr, arith}
 use Rattle.std.specs.Prelude.{slice_get, option_to_list}
+use Rattle.std.proofs.lemmas.Option.{slice_get_past}
 use Rattle.tql_tree.specs.declared.table.Table.{Table}
 use Rattle.tql_core.specs.declared.term.Var.{Var}
 use Rattle.tql_core.specs.declared.atom.Atom.{Atom}
@@ -84,17 +85,12 @@ pub found_accesses : (nodes : List TNode) (inners : List (List Access)) (i : ℕ
 found_accesses nodes inners i found v t x e g q = sym (at_number nodes (length nodes) i found (subst (λ z. slice_get z i ≡ Some found) e g))
     ∙ ap exists_accesses q
 
-no_item : {A : Type 0} (xs : List A) (i : ℕ) → length xs ≤ i → slice_get xs i ≡ None
-no_item [] i h = refl
-no_item (x ∷ xs) zero h = absurd (omega (arith, h))
-no_item (x ∷ xs) (suc i) h = no_item xs i (omega (arith, h))
-
 -- an EXISTS has a number of the pool
 pub none_beyond : (nodes : List TNode) (inners : List (List Access)) (i : ℕ) (v : Var) (t : Table) (x : Condition)
     → inners ≡ inners_of nodes → length inners ≤ i → tree_at nodes i ≡ Exists v t x → [] ≡ inner_accesses v t x
 none_beyond nodes inners i v t x e h q =
     let n : length inners ≡ length nodes = ap length e ∙ count_to nodes (length nodes) in
-    let never : tree_at nodes i ≡ Never = ap (λ o. node_tree o (tree nodes i)) (no_item nodes i (omega (arith, h, n))) in
+    let never : tree_at nodes i ≡ Never = ap (λ o. node_tree o (tree nodes i)) (slice_get_past nodes i (omega (arith, h, n))) in
     absurd (differ (sym never ∙ q))
   where
     differ : Never ≡ Exists v t x → ⊥

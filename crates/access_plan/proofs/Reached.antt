@@ -4,9 +4,9 @@ use Rattle.std.specs.List.{list_all}
 use Rattle.std.proofs.lemmas.Bool.{cases_eq}
 use Rattle.tql_core.specs.declared.term.Var.{Var}
 use Rattle.tql_core.specs.Values.{bind, lookup, true_atom}
+use Rattle.tql_core.proofs.Bound.{bind_same, bind_other}
 use Rattle.time_marks.specs.declared.mark.Step.{Step}
 use Rattle.time_marks.proofs.Lists.{all_in}
-use Rattle.time_marks.proofs.Envs.{bind_same, bind_other}
 use Rattle.access_plan.specs.Accesses.{admits, table_of, is_bound}
 use Rattle.access_plan.specs.Laws.{ReachesAreEnough, BindingKeepsSame}
 use Rattle.access_plan.proofs.Enough.{accesses_are_enough, accesses_keep_tables}

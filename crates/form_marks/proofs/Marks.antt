@@ -25,7 +25,7 @@ use Rattle.time_marks.specs.Marks.{marks_from, rising_from, body}
 use Rattle.time_marks.specs.Probes.{Probe}
 use Rattle.time_marks.specs.Seeks.{lies_in}
 use Rattle.time_marks.proofs.Envs.{copied_back}
-use Rattle.time_marks.proofs.Lists.{in_map}
+use Rattle.time_marks.proofs.Lists.{in_map, map_in}
 use Rattle.time_marks.proofs.Repeats.{distinct_among, probe_is}
 use Rattle.monotone_rewrite.specs.Folding.{known, is_no, fold}
 use Rattle.monotone_rewrite.specs.Query.{can_find, fold_probe, probe_of, unfolded, window}
@@ -62,11 +62,6 @@ module _ {A : Type 0} where
 
   both_in : (xs ys zs : List A) → Sub xs zs → Sub ys zs → Sub (xs ++ ys) zs
   both_in xs ys zs f g z i = elim (one_of xs ys z i) [ inl j ↦ f z j | inr j ↦ g z j ]
-
-unmapped : {A B : Type 0} (f : A → B) (xs : List A) (y : B) → In y (map f xs) → (x : A) × In x xs × (y ≡ f x)
-unmapped f [] y i = absurd i
-unmapped f (x ∷ xs) y (inl e) = (x, inl refl, e)
-unmapped f (x ∷ xs) y (inr i) = let r = unmapped f xs y i in (r.0, inr r.1, r.2)
 
 -- each of some probes is among the distinct ones
 onto_stay : (kept X : List Probe) (p : Probe) → In p kept → In p (distinct_onto same_probe kept X)
@@ -128,7 +123,7 @@ among_right xs ys zs f m i = let a = f m i in (a.0, right_in ys zs a.0 a.1, a.2)
 among_under : (v : Var) (t : Table) (x y : Condition) (xs ys : List Mark) → Among xs ys
     → Among (map (under_step (step_of v t x)) xs) (map (under_step (step_of v t y)) ys)
 among_under v t x y xs ys f m i =
-    let r = unmapped (under_step (step_of v t x)) xs m i in
+    let r = map_in (under_step (step_of v t x)) xs m i in
     let a = f r.0 r.1 in
     let e : under_step (step_of v t x) r.0 ≡ m = sym r.2 in (
       under_step (step_of v t y) a.0,
@@ -236,7 +231,7 @@ foreign up v scope (Either l r) m k b s n i =
     [ inl j ↦ foreign up v scope l m k b s.0 p.0 j | inr j ↦ foreign up v scope r m k b s.1 p.1 j ]
 foreign up v scope (Not x) m k b s n i = foreign (not up) v scope x m k b s n i
 foreign up v scope (Exists w t x) m k b (low, high, new, inner) n i =
-    let r = unmapped (under_step (step_of w t x)) (mark_if up (arrival_term (copy w)) ++ marks x up) m i in
+    let r = map_in (under_step (step_of w t x)) (mark_if up (arrival_term (copy w)) ++ marks x up) m i in
     λ j. elim (one_of (mark_if up (arrival_term (copy w))) (marks x up) r.0 r.1) [
       | inl a ↦ one_mark v up (arrival_term (copy w)) r.0 k a (at_w) (subst (λ (n : Mark). In k (base_vars n.at.base)) r.2 j)
       | inr a ↦ foreign up v (w.0 ∷ scope) x r.0 k (inr b) inner n a (subst (λ (n : Mark). In k (base_vars n.at.base)) r.2 j)
@@ -374,8 +369,8 @@ pub forms_have_no_other_mark : FormsHaveNoOtherMark
 forms_have_no_other_mark c start query T w none p i =
     let c' = form_of c in
     let f = in_filter can_find (map fold_probe (unfolded c' start)) p (distinct_among (window c' start) p i) in
-    let g = unmapped fold_probe (unfolded c' start) p f.0 in
-    let h = unmapped (probe_of c') (rising_from c' start) g.0 g.1 in
+    let g = map_in fold_probe (unfolded c' start) p f.0 in
+    let h = map_in (probe_of c') (rising_from c' start) g.0 g.1 in
     let m = h.0 in
     let a = rising_marks c start query m h.1 in
     let n = a.0 in

@@ -6,6 +6,7 @@ use Rattle.std.specs.List.{list_any}
 use Rattle.std.specs.Cmp.Lexicographic.{pointwise}
 use Rattle.std.proofs.lemmas.Bool.{and_parts, and_from, eqb-true, eq-eqb}
 use Rattle.std.proofs.lemmas.List.{map-append}
+use Rattle.tap_rows.proofs.Tests.{agree}
 use Rattle.node_pool.specs.Pools.{IsPool}
 use Rattle.tql_core.specs.contracts.term.TermPartialEq.TheImpl as term
 use Rattle.tql_core.specs.declared.tnode.TNode.{TNode}
@@ -37,13 +38,6 @@ pub kept_new : (parts new : List Ranged) (part : Ranged) → list_any (λ other.
     → new ≡ parts ++ part ∷ [] → part_probes new ≡ kept_with same_numbers (part_probes parts) part.probe
 kept_new parts new part h e =
     rw (sym (any_probes part.probe parts), h) (ap part_probes e ∙ map-append (λ other. other.probe) parts (part ∷ []))
-
--- two tests that decide the same agree
-agree : (a b : Bool) → (a ≡ true → b ≡ true) → (b ≡ true → a ≡ true) → a ≡ b
-agree true true f g = refl
-agree false false f g = refl
-agree true false f g = sym (f refl)
-agree false true f g = g refl
 
 module _ (nodes : List TNode) (pool : IsPool kids_of nodes) where
   is_within : (p : CodeProbe) → is_kept nodes p ≡ true → p.body.0 < length nodes

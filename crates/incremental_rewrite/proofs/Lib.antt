@@ -1,4 +1,3 @@
-pub mod Grown
 pub mod Kept
 pub mod Lined
 pub mod Witnesses

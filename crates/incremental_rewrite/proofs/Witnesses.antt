@@ -4,7 +4,8 @@ use Rattle.std.proofs.Common.{Some, List, [], ◌∷◌, length, inl, inr, if◌
 use Rattle.std.specs.Prelude.{◌⊎◌, ◌&&◌, not, int_le, nat_eq, nat_le}
 use Rattle.std.specs.Ordering.{int_eq}
 use Rattle.std.specs.List.{list_any, filter}
-use Rattle.std.proofs.lemmas.Bool.{cases_Bool, cases_eq, or_cases, and_parts, and_from, false≢true, eqb-true, eq-eqb, ne_eqb}
+use Rattle.std.proofs.lemmas.Bool.{cases_Bool, cases_eq, or_cases, and_parts, and_from, false≢true, eqb-true, eq-eqb, ne_eqb, or_left}
+use Rattle.std.proofs.lemmas.Bool.{or_right}
 use Rattle.std.proofs.lemmas.Bool.Decides.{Decides-int_eq}
 use Rattle.tap_base.specs.declared.numbers.Op.{Op}
 use Rattle.tap_base.specs.declared.numbers.Op.TheVariants.{Le}
@@ -14,6 +15,7 @@ use Rattle.tap_rows.specs.declared.tables.Tables.{Tables}
 use Rattle.tap_rows.specs.Kept.{In}
 use Rattle.tap_rows.specs.Results.{hits_by}
 use Rattle.tap_rows.specs.Seconds.{least_second}
+use Rattle.tap_rows.proofs.Tests.{agree}
 use Rattle.tql_tree.specs.declared.table.Table.{Table}
 use Rattle.tql_tree.specs.contracts.table.TablePartialEq.TheImpl as table
 use Rattle.tql_core.specs.declared.term.Var.{Var}
@@ -38,14 +40,15 @@ use Rattle.tql_core.specs.Row.{Row, OfDoc, arrival, rows_of}
 use Rattle.tql_core.specs.Scope.{BaseIn, NumIn, TextIn, AtomIn, BaseFits, NumFits, TextFits, AtomFits}
 use Rattle.tql_core.specs.Values.{Env, bind, lookup, on_row, plus_to, base_value, value, both, true_atom}
 use Rattle.tql_core.specs.Holds.{truth}
+use Rattle.tql_core.proofs.Bound.{bind_same, bind_other}
 use Rattle.time_marks.specs.declared.mark.Step.{Step}
 use Rattle.time_marks.specs.Marks.{copied, copy, copy_base, copy_term, copy_number, copy_text, copy_atom}
 use Rattle.time_marks.specs.Laws.{Keeps}
 use Rattle.time_marks.specs.Found.{vars_of, base_vars, NamesInScope, nested, IsProbe, Finds}
 use Rattle.time_marks.specs.Probes.{Probe, choices, finds, found}
 use Rattle.time_marks.proofs.Crossing.{plus_none}
-use Rattle.time_marks.proofs.Envs.{bind_same, bind_other, copied_pos, atom_copy, value_same}
-use Rattle.time_marks.proofs.Lists.{or_left, or_right, any_in, in_any}
+use Rattle.time_marks.proofs.Envs.{copied_pos, atom_copy, value_same}
+use Rattle.time_marks.proofs.Lists.{any_in, in_any}
 use Rattle.time_marks.proofs.Orders.{finds_rows, rows_find, base_in}
 use Rattle.incremental_rewrite.specs.Witness.{is_copy, is_base_copy, is_term_copy, is_number_copy, is_text_copy, is_atom_copy, is_guarded}
 use Rattle.incremental_rewrite.specs.Witness.{has_step, has_row, is_bound_arrival, has_come, is_witnessed, bare_probe, bare_probes}
@@ -283,13 +286,6 @@ body_true T d b p k h f = record {
   same : Keeps (0 ∷ []) f.env f.env
   same i (inl e) = subst (λ j. lookup (copied j) f.env ≡ lookup j f.env) (sym e) refl
   same i (inr j) = absurd j
-
--- two tests that decide the same agree
-agree : (a b : Bool) → (a ≡ true → b ≡ true) → (b ≡ true → a ≡ true) → a ≡ b
-agree true true f g = refl
-agree false false f g = refl
-agree true false f g = sym (f refl)
-agree false true f g = g refl
 
 bare_finds : (T : Tables) (d : Doc) (b : ℤ) (p : Probe) → IsProbe p → finds T d b (bare_probe p) ≡ finds T d b p
 bare_finds T d b p k = elim (cases_Bool (is_witnessed p.path p.at p.body)) [

@@ -1,10 +1,10 @@
 //! Bodies that the rows of their paths make true.
 
-ghost use Rattle.std.specs.Prelude.{◌≡◌, true, IfOk, OnOk};
+ghost use Rattle.std.specs.Prelude.{◌≡◌, true, IfOk};
 ghost use Rattle.std.specs.List.{list_any};
 ghost use Rattle.tap_base.specs.Bytes.{IsPlaceOf};
 ghost use Rattle.tql_core.specs.Condition.{Always};
-ghost use Rattle.tql_core.specs.Trees.{tree_at, IsTreeAt, KeepsTrees};
+ghost use Rattle.tql_core.specs.Trees.{tree_at, IsTreeAt};
 ghost use Rattle.time_marks.specs.Kept.{is_kept, are_kept};
 ghost use Rattle.time_marks.specs.Views.{probe_in, probes_in, probes_of};
 ghost use Rattle.incremental_rewrite.specs.Witness.{is_copy, is_base_copy, is_term_copy};
@@ -17,15 +17,12 @@ ghost use Rattle.incremental_rewrite.specs.Witness.{bare_probes};
 use node_pool::{NodeId, Pool};
 use std::alloc::Global;
 use tap_base::{Memory, Op, Rows};
-use time_marks::{Probe, Step, WindowQuery};
-use tql_core::{Atom, Base, NumExpr, TNode, Term, TextExpr, Var, node_at};
+use time_marks::{Probe, Step, WindowQuery, copy};
+use tql_core::{Atom, Base, NumExpr, TNode, Term, TextExpr, Var, intern_node, node_at};
 use tql_tree::Table;
 
 // The greatest number of a variable of a query.
 const LAST_VAR: u8 = 5;
-
-// What is added to a variable's number for its copy in a path.
-const COPY_OFFSET: u8 = 8;
 
 // Returns whether the other variable is the copy in a path of this one, a variable of a query.
 fn is_copy(var: Var, other: Var) -> bool
@@ -33,10 +30,8 @@ fn is_copy(var: Var, other: Var) -> bool
 {
     if LAST_VAR < var.0 {
         false
-    } else if var.0 == 0 {
-        other.0 == 0
     } else {
-        other.0 == var.0 + COPY_OFFSET
+        other.0 == copy(var).0
     }
 }
 
@@ -240,19 +235,6 @@ fn bare_all(
     Ok(bare)
 }
 
-// Interns True and returns its number. `Memory` comes if memory runs out or the pool has no further
-// number.
-fn shared_true(pool: &mut Pool<TNode>) -> Result<NodeId, Memory>
-    ensures kept { OnOk result (KeepsTrees pool.old pool.new) }
-    ensures tree { IfOk result (λ id. IsTreeAt pool.new id.0 Always) }
-{
-    if pool.len() == u32::MAX {
-        return Err(Memory);
-    }
-    let id = pool.intern(TNode::True)?;
-    Ok(id)
-}
-
 /// Returns the query with the body True in each probe whose body is true whenever the rows of its
 /// path make its guards true and have come by its mark. It finds what the given query finds, over
 /// all tables and windows. `Memory` comes if memory runs out or the bodies have 4,294,967,295
@@ -262,7 +244,7 @@ pub fn bare(alloc: Global, query: WindowQuery) -> Result<WindowQuery, Memory>
 {
     let WindowQuery { pool, probes } = query;
     let mut pool = pool;
-    let always = shared_true(&mut pool)?;
+    let always = intern_node(&mut pool, TNode::True)?;
     let bare = bare_all(alloc, &pool, always, probes)?;
     Ok(WindowQuery { pool, probes: bare })
 }

@@ -32,7 +32,7 @@ bare_rows : (rows : List Row) → AllZip IsTableRow rows [] → rows ≡ []
 bare_rows [] h = refl
 bare_rows (r ∷ rows) h = absurd h
 
-none_listed : (db : Database) → IsDatabase db → db.schema ≡ no_schema → tables_of db.trees ≡ no_rows
+pub none_listed : (db : Database) → IsDatabase db → db.schema ≡ no_schema → tables_of db.trees ≡ no_rows
 none_listed db sound is =
     let none : IsSound no_schema db.trees = subst (λ (s : Schema). IsSound s db.trees) is sound in
     ap (λ rows. tables_listed rows db.trees) (bare_rows (filter is_table_row (db.trees catalog_tree)) none.lists.listed.tables)

@@ -2,6 +2,7 @@
 use Rattle.std.proofs.Common.{◌≡◌, ◌+◌, ℕ, List, [], ◌∷◌, ◌++◌, map, length, true, refl, sym, ap, subst, ◌∙◌}
 use Rattle.std.specs.List.{AllZip}
 use Rattle.std.proofs.lemmas.List.{length-map}
+use Rattle.std.proofs.lemmas.Bool.{and_parts}
 use Rattle.tap_rows.specs.declared.rows.Doc.{Doc}
 use Rattle.tap_rows.specs.declared.rows.Note.{Note}
 use Rattle.tap_rows.specs.declared.rows.QueryRow.{QueryRow}
@@ -26,7 +27,7 @@ use Rattle.keeper_sql.specs.RowsAsValues.{given_note, note_in, given_query, quer
 use Rattle.keeper_sql.specs.RowsAsValues.{filter_in}
 use Rattle.keeper_sql.specs.Store.{Puts, HoldsStore, AreKeyed, IsMeta, put_all}
 use Rattle.keeper_sql.proofs.Appending.{NumberedBy, key_number, numbered_map, append_rows, read_appended, back_numbers}
-use Rattle.keeper_sql.proofs.Numbered.{two, docs_numbered, note_numbered, notes_numbered, query_numbered, queries_numbered, run_numbered}
+use Rattle.keeper_sql.proofs.Numbered.{docs_numbered, note_numbered, notes_numbered, query_numbered, queries_numbered, run_numbered}
 use Rattle.keeper_sql.proofs.Numbered.{runs_numbered, picks_numbered, filter_numbered, filters_numbered}
 
 not_bare : (rows : List Row) (t : Table) (ts : List Table) (db : Trees) → AllZip IsTableRow rows (t ∷ ts)
@@ -45,22 +46,23 @@ tail_of [] = []
 tail_of (v ∷ vs) = vs
 
 docs_in_order : (t : Tables) → is_well_formed t ≡ true → NumberedBy (λ (d : Doc). d.num.0) 1 t.docs
-docs_in_order t h = docs_numbered 1 _ t.docs ((two _ _ (two _ _ (two _ _ (two _ _ (two _ _ h).0).0).0).0).0)
+docs_in_order t h = docs_numbered 1 _ t.docs ((and_parts _ _ (and_parts _ _ (and_parts _ _ (and_parts _ _ (and_parts _ _ h).0).0).0).0).0)
 
 notes_in_order : (t : Tables) → is_well_formed t ≡ true → NumberedBy (λ (n : Note). n.num.0) 1 t.notes
-notes_in_order t h = notes_numbered t.docs 1 _ t.notes ((two _ _ (two _ _ (two _ _ (two _ _ (two _ _ h).0).0).0).0).1)
+notes_in_order t h =
+    notes_numbered t.docs 1 _ t.notes ((and_parts _ _ (and_parts _ _ (and_parts _ _ (and_parts _ _ (and_parts _ _ h).0).0).0).0).1)
 
 queries_in_order : (t : Tables) → is_well_formed t ≡ true → NumberedBy (λ (q : QueryRow). q.num.0) 1 t.queries
-queries_in_order t h = queries_numbered [] 1 _ t.queries ((two _ _ (two _ _ (two _ _ (two _ _ h).0).0).0).1)
+queries_in_order t h = queries_numbered [] 1 _ t.queries ((and_parts _ _ (and_parts _ _ (and_parts _ _ (and_parts _ _ h).0).0).0).1)
 
 runs_in_order : (t : Tables) → is_well_formed t ≡ true → NumberedBy (λ (r : RunRow). r.num) 1 t.runs
-runs_in_order t h = runs_numbered t.queries 1 _ t.runs ((two _ _ (two _ _ (two _ _ h).0).0).1)
+runs_in_order t h = runs_numbered t.queries 1 _ t.runs ((and_parts _ _ (and_parts _ _ (and_parts _ _ h).0).0).1)
 
 picks_in_order : (t : Tables) → is_well_formed t ≡ true → NumberedBy (λ (p : Pick). p.num) 1 t.picks
-picks_in_order t h = picks_numbered t.runs t.docs [] 1 _ t.picks ((two _ _ (two _ _ h).0).1)
+picks_in_order t h = picks_numbered t.runs t.docs [] 1 _ t.picks ((and_parts _ _ (and_parts _ _ h).0).1)
 
 filters_in_order : (t : Tables) → is_well_formed t ≡ true → NumberedBy (λ (f : FilterRow). f.num) 1 t.filters
-filters_in_order t h = filters_numbered 1 _ t.filters ((two _ _ h).1)
+filters_in_order t h = filters_numbered 1 _ t.filters ((and_parts _ _ h).1)
 
 docs_appended : (old new : Database) (xs : List Doc) → HoldsStore old → is_well_formed (tables_in old.trees) ≡ true
     → NumberedBy (λ (d : Doc). d.num.0) (length (map doc_in (old.trees 1)) + 1) xs
@@ -220,8 +222,8 @@ rows_after (OneQuery query) old new holds formed fit back puts =
     )
 rows_after (RunDone run picked) old new holds formed fit back puts =
     let runs =
-    runs_appended old new (run ∷ []) holds formed (run_numbered _ _ _ run (two _ _ fit).0, tt) (ap (λ x. x ∷ []) back.0) puts.runs in
-    let picks = picks_appended old new picked holds formed (picks_numbered _ _ _ _ _ picked (two _ _ fit).1) back.1 puts.picks in (
+    runs_appended old new (run ∷ []) holds formed (run_numbered _ _ _ run (and_parts _ _ fit).0, tt) (ap (λ x. x ∷ []) back.0) puts.runs in
+    let picks = picks_appended old new picked holds formed (picks_numbered _ _ _ _ _ picked (and_parts _ _ fit).1) back.1 puts.picks in (
       record {
         sound = puts.sound holds.sound;
         schema = puts.schema;

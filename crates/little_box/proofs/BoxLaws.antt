@@ -2,8 +2,9 @@
 use Rattle.std.proofs.Common.{◌≡◌, ℕ, zero, suc, ◌<◌, Bool, true, false, List, [], ◌∷◌, ◌++◌, refl, sym, ap, ◌∙◌, nat_eq, length, set}
 use Rattle.std.proofs.Common.{arith, inl, inr, length-append}
 use Rattle.std.specs.Prelude.{◌||◌, slice_get}
-use Rattle.std.proofs.lemmas.Bool.{cases_Bool}
+use Rattle.std.proofs.lemmas.Bool.{cases_Bool, eqb-true, or_parts, or_right}
 use Rattle.tap_rows.specs.declared.results.Entry.{Entry}
+use Rattle.tap_rows.proofs.Tests.{nat_itself}
 use Rattle.little_box.specs.Boxes.{is_in, is_set, AreDistinct, IsBox}
 
 -- numbers
@@ -11,24 +12,6 @@ use Rattle.little_box.specs.Boxes.{is_in, is_set, AreDistinct, IsBox}
 -- one number is apart from another, and the other from the one
 turned : (m n : ℕ) → nat_eq m n ≡ false → nat_eq n m ≡ false
 turned m n h = grind (arith, h)
-
--- a number is equal to itself
-itself : (n : ℕ) → nat_eq n n ≡ true
-itself n = grind arith
-
--- numbers that the test calls equal are equal
-same_number : (m n : ℕ) → nat_eq m n ≡ true → m ≡ n
-same_number m n h = grind (arith, h)
-
--- of two tests none holds, so each fails
-apart : (a b : Bool) → (a || b) ≡ false → (a ≡ false) × (b ≡ false)
-apart true b h = absurd cc
-apart false b h = (refl, h)
-
--- a test that holds makes either hold
-second_holds : (a b : Bool) → b ≡ true → (a || b) ≡ true
-second_holds true b h = refl
-second_holds false b h = h
 
 -- marks
 
@@ -68,13 +51,13 @@ other_more n (e ∷ es) x h = ap (λ b. nat_eq n e.doc.0 || b) (other_more n es 
 -- the document of the last entry is delivered
 last_is_in : (n : ℕ) (es : List Entry) (x : Entry) → nat_eq n x.doc.0 ≡ true → is_in n (es ++ x ∷ []) ≡ true
 last_is_in n [] x h = rw h refl
-last_is_in n (e ∷ es) x h = second_holds (nat_eq n e.doc.0) (is_in n (es ++ x ∷ [])) (last_is_in n es x h)
+last_is_in n (e ∷ es) x h = or_right (nat_eq n e.doc.0) (is_in n (es ++ x ∷ [])) (last_is_in n es x h)
 
 -- a new document behind distinct ones leaves them distinct
 distinct_more : (es : List Entry) (x : Entry) → AreDistinct es → is_in x.doc.0 es ≡ false → AreDistinct (es ++ x ∷ [])
 distinct_more [] x d h = (refl, tt)
 distinct_more (e ∷ es) x d h =
-    let a = apart (nat_eq x.doc.0 e.doc.0) (is_in x.doc.0 es) h in
+    let a = or_parts (nat_eq x.doc.0 e.doc.0) (is_in x.doc.0 es) h in
     (other_more e.doc.0 es x (turned _ _ a.0) ∙ d.0, distinct_more es x d.1 a.1)
 
 -- the marks after an entry more
@@ -82,7 +65,7 @@ marked_more : (es : List Entry) (bs : List Bool) (e : Entry) → ((n : ℕ) → 
     → (n : ℕ) → is_set (slice_get (set bs e.doc.0 true) n) ≡ is_in n (es ++ e ∷ [])
 marked_more es bs e m w n =
     elim (cases_Bool (nat_eq n e.doc.0)) [
-      | inl b ↦ ap (λ k. is_set (slice_get (set bs e.doc.0 true) k)) (same_number n e.doc.0 b) ∙ mark_same bs e.doc.0 true w
+      | inl b ↦ ap (λ k. is_set (slice_get (set bs e.doc.0 true) k)) (eqb-true n e.doc.0 b) ∙ mark_same bs e.doc.0 true w
           ∙ sym (last_is_in n es e b)
       | inr b ↦ ap is_set (mark_other bs e.doc.0 n true b) ∙ m n ∙ sym (other_more n es e b)
     ]
@@ -101,9 +84,9 @@ box_more es bs cs e b s w h r = record {
 
 -- what isn't delivered isn't among the first
 unseen_fewer : (n : ℕ) (es : List Entry) (x : Entry) → is_in n (es ++ x ∷ []) ≡ false → (is_in n es ≡ false) × (nat_eq n x.doc.0 ≡ false)
-unseen_fewer n [] x h = (refl, (apart (nat_eq n x.doc.0) false h).0)
+unseen_fewer n [] x h = (refl, (or_parts (nat_eq n x.doc.0) false h).0)
 unseen_fewer n (e ∷ es) x h =
-    let a = apart (nat_eq n e.doc.0) (is_in n (es ++ x ∷ [])) h in
+    let a = or_parts (nat_eq n e.doc.0) (is_in n (es ++ x ∷ [])) h in
     let i = unseen_fewer n es x a.1 in
     (rw a.0 i.0, i.1)
 
@@ -122,7 +105,7 @@ marked_fewer : (es : List Entry) (bs : List Bool) (e : Entry) → IsBox (es ++ e
 marked_fewer es bs e x n =
     elim (cases_Bool (nat_eq n e.doc.0)) [
       | inl b ↦
-          let k = same_number n e.doc.0 b in
+          let k = eqb-true n e.doc.0 b in
           ap (λ k. is_set (slice_get (set bs e.doc.0 false) k)) k ∙ mark_off bs e.doc.0 ∙ sym (distinct_fewer es e x.distinct).1
           ∙ ap (λ k. is_in k es) (sym k)
       | inr b ↦ ap is_set (mark_other bs e.doc.0 n false b) ∙ x.marked n ∙ other_more n es e b
@@ -138,4 +121,4 @@ box_fewer es bs e b = record {
 
 -- the last entry's document has a mark
 pub last_within : (es : List Entry) (bs : List Bool) (e : Entry) → IsBox (es ++ e ∷ []) bs → e.doc.0 < length bs
-last_within es bs e b = set_within bs e.doc.0 (b.marked e.doc.0 ∙ last_is_in e.doc.0 es e (itself e.doc.0))
+last_within es bs e b = set_within bs e.doc.0 (b.marked e.doc.0 ∙ last_is_in e.doc.0 es e (nat_itself e.doc.0))

@@ -3,7 +3,7 @@ use Rattle.std.proofs.Common.{◌≡◌, ◌∙◌, refl, sym, ap, ℕ, Bool, tr
 use Rattle.std.specs.Prelude.{codes, Option, ℤ, not, ◌||◌}
 use Rattle.std.specs.List.{list_any, list_all}
 use Rattle.std.specs.Str.{bytes_eq}
-use Rattle.std.proofs.lemmas.Bool.{and_parts, and_from, false≢true}
+use Rattle.std.proofs.lemmas.Bool.{and_parts, and_from, false≢true, not-true}
 use Rattle.std.proofs.lemmas.List.{append-nil, append_assoc}
 use Rattle.std.proofs.lemmas.List.Folds.{list_any-append}
 use Rattle.std.specs.Option.{option_and_then}
@@ -53,10 +53,6 @@ fields-same header body n d f s m i t c g r w ed ef es em ei et ec eg er ew j = 
 -- texts of which no two are equal all stay, behind texts that equal none of them
 abbrev none_of : List (List ℕ) → List (List ℕ) → Bool
 none_of held texts = list_all (λ text. not (has_text held text)) texts
-
-not-true : (b : Bool) → not b ≡ true → b ≡ false
-not-true true e = absurd (false≢true e)
-not-true false e = refl
 
 has-append : (held : List (List ℕ)) (text last : List ℕ) → has_text held text ≡ false → bytes_eq text last ≡ false
     → has_text (held ++ last ∷ []) text ≡ false

@@ -17,18 +17,9 @@ use Rattle.time_marks.specs.Marks.{copy, copy_term, arrival_term, step_of, under
 use Rattle.time_marks.specs.Marks.{body}
 use Rattle.time_marks.specs.Found.{higher, nested}
 use Rattle.time_marks.proofs.Lists.{append_in, map_in}
+use Rattle.time_marks.proofs.Depth.{higher_left, higher_right}
 use Rattle.monotone_rewrite.specs.Folding.{KnownTruth, Yes, No, Open, known, constant, same_base, is_there, fold_all, fold_either, fold_not}
 use Rattle.monotone_rewrite.specs.Folding.{fold_exists, fold}
-
-high_left : (a b : ℕ) → a ≤ higher a b
-high_left a b = elim (cases_Bool (nat_le a b)) [ inl y ↦ rw y (le y) | inr n ↦ rw n (omega arith) ] where
-  le : nat_le a b ≡ true → a ≤ b
-  le h = grind arith
-
-high_right : (a b : ℕ) → b ≤ higher a b
-high_right a b = elim (cases_Bool (nat_le a b)) [ inl y ↦ rw y (omega arith) | inr n ↦ rw n (le n) ] where
-  le : nat_le a b ≡ false → b ≤ a
-  le h = grind arith
 
 high_least : (a b n : ℕ) → a ≤ n → b ≤ n → higher a b ≤ n
 high_least a b n h k = go (nat_le a b) where
@@ -50,13 +41,13 @@ short (NowAtLeast e) up mark i = empty_here up (copy_term e) mark i
 short (NowBefore e) up mark i = empty_here (not up) (copy_term e) mark i
 short (All l r) up mark i =
     elim (append_in (marks l up) (marks r up) mark i) [
-      | inl j ↦ omega (arith, short l up mark j, high_left (nested l) (nested r))
-      | inr j ↦ omega (arith, short r up mark j, high_right (nested l) (nested r))
+      | inl j ↦ omega (arith, short l up mark j, higher_left (nested l) (nested r))
+      | inr j ↦ omega (arith, short r up mark j, higher_right (nested l) (nested r))
     ]
 short (Either l r) up mark i =
     elim (append_in (marks l up) (marks r up) mark i) [
-      | inl j ↦ omega (arith, short l up mark j, high_left (nested l) (nested r))
-      | inr j ↦ omega (arith, short r up mark j, high_right (nested l) (nested r))
+      | inl j ↦ omega (arith, short l up mark j, higher_left (nested l) (nested r))
+      | inr j ↦ omega (arith, short r up mark j, higher_right (nested l) (nested r))
     ]
 short (Not x) up mark i = short x (not up) mark i
 short (Exists v t x) up mark i =
@@ -144,9 +135,11 @@ nested_body (Plain a) at = omega arith
 nested_body (NowAtLeast e) at = omega arith
 nested_body (NowBefore e) at = omega arith
 nested_body (All l r) at = high_least (nested (body l at)) (nested (body r at)) (higher (nested l) (nested r))
-    (omega (arith, nested_body l at, high_left (nested l) (nested r))) (omega (arith, nested_body r at, high_right (nested l) (nested r)))
+    (omega (arith, nested_body l at, higher_left (nested l) (nested r)))
+    (omega (arith, nested_body r at, higher_right (nested l) (nested r)))
 nested_body (Either l r) at = high_least (nested (body l at)) (nested (body r at)) (higher (nested l) (nested r))
-    (omega (arith, nested_body l at, high_left (nested l) (nested r))) (omega (arith, nested_body r at, high_right (nested l) (nested r)))
+    (omega (arith, nested_body l at, higher_left (nested l) (nested r)))
+    (omega (arith, nested_body r at, higher_right (nested l) (nested r)))
 nested_body (Not x) at = nested_body x at
 nested_body (Exists v t x) at = omega (arith, high_least 0 (nested (body x at)) (nested x) (omega arith) (nested_body x at))
 
@@ -156,16 +149,16 @@ constant_none false = omega arith
 
 all_nested : (k k' : KnownTruth) (l r : Condition) → nested (fold_all k k' l r) ≤ higher (nested l) (nested r)
 all_nested No k' l r = omega arith
-all_nested Yes k' l r = high_right (nested l) (nested r)
+all_nested Yes k' l r = higher_right (nested l) (nested r)
 all_nested Open No l r = omega arith
-all_nested Open Yes l r = high_left (nested l) (nested r)
+all_nested Open Yes l r = higher_left (nested l) (nested r)
 all_nested Open Open l r = omega arith
 
 either_nested : (k k' : KnownTruth) (l r : Condition) → nested (fold_either k k' l r) ≤ higher (nested l) (nested r)
 either_nested Yes k' l r = omega arith
-either_nested No k' l r = high_right (nested l) (nested r)
+either_nested No k' l r = higher_right (nested l) (nested r)
 either_nested Open Yes l r = omega arith
-either_nested Open No l r = high_left (nested l) (nested r)
+either_nested Open No l r = higher_left (nested l) (nested r)
 either_nested Open Open l r = omega arith
 
 not_nested : (k : KnownTruth) (x : Condition) → nested (fold_not k x) ≤ nested x
@@ -179,7 +172,7 @@ exists_nested Yes v t x = omega arith
 exists_nested Open v t x = omega arith
 
 higher_both : (a b c d : ℕ) → a ≤ c → b ≤ d → higher a b ≤ higher c d
-higher_both a b c d h k = high_least a b (higher c d) (omega (arith, h, high_left c d)) (omega (arith, k, high_right c d))
+higher_both a b c d h k = high_least a b (higher c d) (omega (arith, h, higher_left c d)) (omega (arith, k, higher_right c d))
 
 pub nested_fold : (at : Term) (x : Condition) → nested (fold at x) ≤ nested x
 nested_fold at Always = omega arith

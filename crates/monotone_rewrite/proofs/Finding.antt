@@ -1,7 +1,7 @@
 -- What a probe finds, and when a document is given.
 use Rattle.std.proofs.Common.{◌≡◌, ℕ, ℤ, pos, Bool, true, false, not, Some, List, [], ◌∷◌, ◌++◌, refl, sym, ap, ◌∙◌, subst, inl, inr, arith}
 use Rattle.std.specs.Prelude.{◌+ℤ◌, ◌<ℤ◌, int_le, int_lt}
-use Rattle.std.proofs.lemmas.Bool.{cases_Bool, and_parts, and_from, or_cases, false≢true, ne_eqb}
+use Rattle.std.proofs.lemmas.Bool.{cases_Bool, and_parts, and_from, or_cases, false≢true, ne_eqb, or_left}
 use Rattle.std.proofs.lemmas.Int.{ints}
 use Rattle.tap_rows.specs.declared.rows.Doc.{Doc}
 use Rattle.tql_tree.specs.declared.table.Table.TheVariants.{Docs}
@@ -14,6 +14,7 @@ use Rattle.tql_core.specs.Values.{Env, bind, lookup, value}
 use Rattle.tql_core.specs.Holds.{truth, asked_of}
 use Rattle.time_marks.proofs.Asked.{given}
 use Rattle.tql_core.specs.Scope.{Scoped, IsQuery}
+use Rattle.tql_core.proofs.Bound.{bind_other}
 use Rattle.tap_rows.specs.Kept.{In}
 use Rattle.time_marks.specs.declared.mark.Step.{Step}
 use Rattle.time_marks.specs.declared.mark.Mark.{Mark}
@@ -23,9 +24,9 @@ use Rattle.time_marks.specs.Probes.{choices, some_rows, come_by, is_satisfied, f
 use Rattle.monotone_rewrite.specs.Query.{probe_of, unfolded}
 use Rattle.time_marks.specs.Laws.{Keeps, Same, Along, Crossed}
 use Rattle.time_marks.proofs.Orders.{is_value_of, value_is}
-use Rattle.time_marks.proofs.Lists.{or_left, any_in, in_any, in_map, map_in, append_in}
+use Rattle.time_marks.proofs.Lists.{any_in, in_any, in_map, map_in, append_in}
 use Rattle.time_marks.proofs.Seconds.{reached}
-use Rattle.time_marks.proofs.Envs.{bind_other, copied_pos, guards_hold}
+use Rattle.time_marks.proofs.Envs.{copied_pos, guards_hold}
 use Rattle.time_marks.proofs.Crossing.{crossing, crossed_here, crossed_left, crossed_right, plus_none}
 use Rattle.time_marks.proofs.Bodies.{body_truth}
 

@@ -25,13 +25,14 @@ use Rattle.tap_rows.specs.declared.tables.Tables.{Tables}
 use Rattle.tql_core.specs.Values.{Env, bind, lookup, on_row, base_value, plus_to, value, both, compare}
 use Rattle.tql_core.specs.Holds.{truth}
 use Rattle.tql_core.specs.Scope.{BaseIn, NumIn, TextIn, AtomIn, Scoped}
+use Rattle.tql_core.proofs.Bound.{bind_same, bind_other}
 use Rattle.tap_rows.specs.Kept.{In}
 use Rattle.time_marks.specs.Marks.{copy_base, copy_term, body}
 use Rattle.monotone_rewrite.specs.Folding.{KnownTruth, Yes, No, Open, known, is_no, constant, same_base, is_there, fold_atom, fold_all}
 use Rattle.monotone_rewrite.specs.Folding.{fold_either, fold_not, fold_exists, fold}
 use Rattle.time_marks.specs.Found.{NamesInScope}
 use Rattle.time_marks.proofs.Lists.{any_same}
-use Rattle.time_marks.proofs.Envs.{bind_same, bind_other, base_stays}
+use Rattle.time_marks.proofs.Envs.{base_stays}
 
 yes_is : (c : Condition) → known c ≡ Yes → c ≡ Always
 yes_is Always e = refl

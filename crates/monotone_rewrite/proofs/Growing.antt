@@ -1,5 +1,5 @@
 -- Rows that come later, and the union as the least growing family.
-use Rattle.std.proofs.Common.{◌≡◌, ℕ, zero, suc, ℤ, pos, Bool, true, Option, Some, None, List, [], ◌∷◌, refl, sym, ap, ◌∙◌, subst, inl, inr}
+use Rattle.std.proofs.Common.{◌≡◌, ℕ, ℤ, pos, Bool, true, Option, Some, None, List, [], ◌∷◌, refl, sym, ap, ◌∙◌, subst, inl, inr}
 use Rattle.std.proofs.Common.{arith}
 use Rattle.std.specs.Prelude.{◌⊎◌, ◌+ℤ◌, ◌≤ℤ◌, ◌<ℤ◌, nat_eq}
 use Rattle.std.specs.List.{filter, filter_map, cons_option}
@@ -18,7 +18,7 @@ use Rattle.monotone_rewrite.specs.Laws.{LaterRowsKeepFirst, union_docs, in_union
 use Rattle.tap_rows.proofs.LaterLaws.{first-later}
 use Rattle.tql_core.proofs.OfTheSecond.{of-the-second}
 use Rattle.time_marks.proofs.Lists.{any_in, in_any, in_map, map_in}
-use Rattle.tap_rows.proofs.SecondsLaws.{first_from-none, first_from-within, gap-end, gap-is}
+use Rattle.tap_rows.proofs.SecondsLaws.{first_from-none, first_from-within, gap-end, gap-is, first_from-passes}
 use Rattle.monotone_rewrite.proofs.Union.{keep_all}
 
 pub later_keeps_first : LaterRowsKeepFirst
@@ -32,18 +32,6 @@ first_there p n a x lo hi y = go (first_from p n a) refl
     go : (o : Option ℤ) → first_from p n a ≡ o → (f : ℤ) × (first_from p n a ≡ Some f)
     go None e = absurd (both_ways (p x) (first_from-none p n a x e lo hi) y)
     go (Some f) e = (f, e)
-
--- the number that is found passes
-pub first_passes : (p : ℤ → Bool) (n : ℕ) (a f : ℤ) → first_from p n a ≡ Some f → p f ≡ true
-first_passes p zero a f e = absurd cc
-first_passes p (suc n) a f e =
-    elim (cases_Bool (p a)) [
-      | inl y ↦ ap p (sym (some_same (rw y at e))) ∙ y
-      | inr z ↦ first_passes p n (a +ℤ pos 1) f (rw z at e)
-    ]
-  where
-    some_same : {x y : ℤ} → Some x ≡ Some y → x ≡ y
-    some_same e = cc
 
 in_put : (a : Hit) (bs : List Hit) (h : Hit) → In h (a ∷ bs) → In h (put_in a bs)
 in_put a [] h i = i
@@ -153,7 +141,7 @@ module _ (c : Condition) (T : Tables) (a : ℤ) where
             ∙ ap (λ z. z.0) r.3,
         b.0,
         gap-end a t l.0.first b.0 b.1,
-        first_passes (given c T r.0) (count_between a t) a l.0.first e,
+        first_from-passes (given c T r.0) (count_between a t) a l.0.first e,
       )
 
   gives_in : (d : Doc) (s : ℤ) → In d (gives c T s) → In d T.docs × (given c T d s ≡ true)

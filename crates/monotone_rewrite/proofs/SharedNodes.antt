@@ -1,8 +1,6 @@
 -- Nodes of a pool that grows.
-use Rattle.std.proofs.Common.{◌≡◌, ◌∙◌, refl, ℕ, true, List, [], ◌∷◌, ◌++◌, length, arith}
-use Rattle.std.specs.Prelude.{nat_lt}
+use Rattle.std.proofs.Common.{◌≡◌, ◌∙◌, refl, ℕ, true, List, [], ◌∷◌, ◌++◌}
 use Rattle.std.specs.List.{filter}
-use Rattle.std.proofs.lemmas.Bool.{and_parts, and_from}
 use Rattle.tql_core.specs.declared.tnode.TNode.{TNode}
 use Rattle.tql_core.specs.declared.term.Var.{Var}
 use Rattle.tql_tree.specs.declared.table.Table.{Table}
@@ -10,8 +8,9 @@ use Rattle.tql_core.specs.Condition.{Condition}
 use Rattle.tql_core.specs.Trees.{tree_at, IsTreeAt, KeepsTrees}
 use Rattle.time_marks.specs.declared.probe.Probe.{Probe as CodeProbe}
 use Rattle.time_marks.specs.declared.mark.Mark.{Mark}
-use Rattle.time_marks.specs.Kept.{is_kept, are_kept}
+use Rattle.time_marks.specs.Kept.{are_kept}
 use Rattle.time_marks.specs.Views.{probes_in}
+use Rattle.time_marks.proofs.GrownPools.{same_probes}
 use Rattle.monotone_rewrite.specs.Query.{can_find}
 use Rattle.monotone_rewrite.specs.Folding.{known, fold_all, fold_either, fold_exists}
 
@@ -33,30 +32,9 @@ module _ (nodes : List TNode) where
   exists_known after l id v table x a t = record { within = t.within; is = t.is ∙ rw a.is refl }
 
 module _ (old new : List TNode) (keeps : KeepsTrees old new) where
-  here : (id : ℕ) → nat_lt id (length old) ≡ true → IsTreeAt new id (tree_at old id)
-  here id h = keeps id (tree_at old id) (record { within = grind arith; is = refl })
-
-  still_kept : (p : CodeProbe) → is_kept old p ≡ true → is_kept new p ≡ true
-  still_kept p h =
-      let q = and_parts _ _ h in
-      let w = (here p.body.0 q.0).within in
-      let l : nat_lt p.body.0 (length new) ≡ true = grind arith in
-      and_from _ _ l q.1
-
-  pub all_kept : (ps : List CodeProbe) → are_kept old ps ≡ true → are_kept new ps ≡ true
-  all_kept [] h = refl
-  all_kept (p ∷ ps) h = let q = and_parts _ _ h in and_from _ _ (still_kept p q.0) (all_kept ps q.1)
-
-  pub same_probes : (ps : List CodeProbe) → are_kept old ps ≡ true → probes_in new ps ≡ probes_in old ps
-  same_probes [] h = refl
-  same_probes (p ∷ ps) h =
-      let q = and_parts _ _ h in
-      let e = (here p.body.0 (and_parts _ _ q.0).0).is in
-      rw (e, same_probes ps q.1) refl
-
   -- the probes with that of a mark, unless its body is False
   pub probe_added : (ps : List CodeProbe) → are_kept old ps ≡ true → (qs : List CodeProbe) (mark : Mark) (id : ℕ) (x : Condition)
       → IsTreeAt new id x
       → probes_in new qs ≡ probes_in new ps ++ filter can_find (record { path = mark.path; at = mark.at; body = tree_at new id } ∷ [])
       → probes_in new qs ≡ probes_in old ps ++ filter can_find (record { path = mark.path; at = mark.at; body = x } ∷ [])
-  probe_added ps h qs mark id x t e = e ∙ rw (same_probes ps h, t.is) refl
+  probe_added ps h qs mark id x t e = e ∙ rw (same_probes old new keeps ps h, t.is) refl

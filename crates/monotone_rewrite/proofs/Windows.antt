@@ -3,7 +3,7 @@ use Rattle.std.proofs.Common.{◌≡◌, ℕ, zero, suc, ℤ, pos, Bool, true, f
 use Rattle.std.proofs.Common.{subst, inl, inr}
 use Rattle.std.specs.Prelude.{◌&&◌, ◌||◌, ◌+ℤ◌, map, is_some}
 use Rattle.std.specs.List.{list_any, filter}
-use Rattle.std.proofs.lemmas.Bool.{not-false, cases_Bool}
+use Rattle.std.proofs.lemmas.Bool.{not-false, cases_Bool, and_right}
 use Rattle.tap_rows.specs.declared.rows.Doc.{Doc}
 use Rattle.tql_tree.specs.declared.table.Table.TheVariants.{Docs}
 use Rattle.tql_core.specs.declared.term.Base.{Base}
@@ -15,6 +15,7 @@ use Rattle.tap_rows.specs.Results.{hits_in_order}
 use Rattle.tql_core.specs.Values.{Env, bind, lookup, on_row, round_up_to_day, day_of, base_value, plus_to, value}
 use Rattle.tql_core.specs.Holds.{truth, asked_of}
 use Rattle.tql_core.specs.Scope.{BaseIn, IsQuery}
+use Rattle.tql_core.proofs.Bound.{bind_other}
 use Rattle.tap_rows.specs.Kept.{In}
 use Rattle.time_marks.specs.declared.mark.Step.{Step}
 use Rattle.time_marks.specs.declared.mark.Mark.{Mark}
@@ -25,7 +26,6 @@ use Rattle.time_marks.specs.Distinct.{same_probe, distinct_probes}
 use Rattle.time_marks.proofs.Repeats.{probe_is, distinct_found}
 use Rattle.monotone_rewrite.specs.Query.{fold_probe, can_find, probe_of, unfolded, window}
 use Rattle.time_marks.proofs.Lists.{any_same, map_in}
-use Rattle.time_marks.proofs.Envs.{bind_other}
 use Rattle.monotone_rewrite.proofs.Finding.{Apart, Fine, fine_from}
 use Rattle.time_marks.proofs.Orders.{is_value_of}
 use Rattle.monotone_rewrite.proofs.Folds.{Bounds, body_named, fold_truth, no_is, is_no_is}
@@ -39,10 +39,6 @@ and_last true true true t t' h = h refl
 and_last true true false t t' h = refl
 and_last true false c t t' h = refl
 and_last false v c t t' h = refl
-
-and_never : (x t : Bool) → t ≡ false → (x && t) ≡ false
-and_never true t h = h
-and_never false t h = refl
 
 -- m, and the variable of the base
 abbrev at_scope : Base → List ℕ
@@ -153,7 +149,7 @@ module _ (c : Condition) (a : ℤ) (q : IsQuery c) (T : Tables) (d : Doc) (b : �
   never_finds : (p : Probe) → can_find p ≡ false → finds T d b p ≡ false
   never_finds p h =
       let never : p.body ≡ Never = no_is p.body (is_no_is (known p.body) (not-false (is_no (known p.body)) h)) in
-      some_never T d p.path [] (is_satisfied p T b) (λ final. and_never _ _ (ap (λ x. truth T (pos 0) x final) never))
+      some_never T d p.path [] (is_satisfied p T b) (λ final. and_right _ _ (ap (λ x. truth T (pos 0) x final) never))
 
   pub window_found : found (window c a) T d b ≡ found (unfolded c a) T d b
   window_found =

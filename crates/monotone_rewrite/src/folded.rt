@@ -6,12 +6,10 @@ ghost use Rattle.tql_core.specs.Trees.{IsTreeAt, KeepsTrees};
 ghost use Rattle.time_marks.specs.Marks.{body};
 ghost use Rattle.monotone_rewrite.specs.Folding.{same_base, is_there, fold_atom, fold};
 
-use crate::shared::{
-    shared, shared_all, shared_constant, shared_either, shared_exists, shared_not,
-};
+use crate::shared::{shared_all, shared_constant, shared_either, shared_exists, shared_not};
 use node_pool::{NodeId, Pool};
 use tap_base::{Copied, Memory, Op};
-use tql_core::{Atom, Base, Cond, TNode, Term, compares};
+use tql_core::{Atom, Base, Cond, TNode, Term, compares, intern_node};
 
 // Returns whether the bases are equal.
 fn is_same_base(a: Base, b: Base) -> bool
@@ -46,14 +44,14 @@ fn folded_atom(pool: &mut Pool<TNode>, at: &Term, atom: Atom) -> Result<NodeId, 
     ensures tree { IfOk result (λ id. IsTreeAt pool.new id.0 (fold_atom at.now atom)) }
 {
     match atom {
-        Atom::Numbers(x, op, y) => shared(pool, TNode::Plain(Atom::Numbers(x, op, y))),
-        Atom::Texts(x, op, y) => shared(pool, TNode::Plain(Atom::Texts(x, op, y))),
-        Atom::Has(v, f, y) => shared(pool, TNode::Plain(Atom::Has(v, f, y))),
+        Atom::Numbers(x, op, y) => intern_node(pool, TNode::Plain(Atom::Numbers(x, op, y))),
+        Atom::Texts(x, op, y) => intern_node(pool, TNode::Plain(Atom::Texts(x, op, y))),
+        Atom::Has(v, f, y) => intern_node(pool, TNode::Plain(Atom::Has(v, f, y))),
         Atom::Times(x, op, y) => {
             if is_same_base(x.base, y.base) && is_there(at, x.base) {
                 shared_constant(pool, compares(op, i128::from(x.plus), i128::from(y.plus)))
             } else {
-                shared(pool, TNode::Plain(Atom::Times(x, op, y)))
+                intern_node(pool, TNode::Plain(Atom::Times(x, op, y)))
             }
         }
     }
@@ -67,8 +65,8 @@ pub(crate) fn folded_body(pool: &mut Pool<TNode>, cond: &Cond, at: &Term) -> Res
         IsTreeAt pool.new id.0 (fold at.now (body (condition cond.now) at.now))) }
 {
     match cond {
-        Cond::True => shared(pool, TNode::True),
-        Cond::False => shared(pool, TNode::False),
+        Cond::True => intern_node(pool, TNode::True),
+        Cond::False => intern_node(pool, TNode::False),
         Cond::Plain(atom) => folded_atom(pool, at, atom.copied()?),
         Cond::NowAtLeast(term) => folded_atom(pool, at, Atom::Times(*at, Op::Ge, *term)),
         Cond::NowBefore(term) => folded_atom(pool, at, Atom::Times(*at, Op::Lt, *term)),

@@ -1,16 +1,15 @@
 //! Nodes of folded bodies, interned in the pool: equal nodes share one number.
 
-ghost use Rattle.std.specs.Prelude.{◌≡◌, ◌<◌, length, true, Some, IfOk, OnOk};
+ghost use Rattle.std.specs.Prelude.{◌≡◌, IfOk, OnOk};
 ghost use Rattle.tap_base.specs.Bytes.{IsPlaceOf};
-ghost use Rattle.node_pool.specs.Pools.{are_below};
-ghost use Rattle.tql_core.specs.Trees.{kids_of, node_tree, tree_at, IsTreeAt, KeepsTrees};
+ghost use Rattle.tql_core.specs.Trees.{tree_at, IsTreeAt, KeepsTrees};
 ghost use Rattle.monotone_rewrite.specs.Folding.{known, constant, fold_all, fold_either, fold_not};
 ghost use Rattle.monotone_rewrite.specs.Folding.{fold_exists};
 ghost use Rattle.monotone_rewrite.specs.Kinds.{kind_is};
 
 use node_pool::{NodeId, Pool};
 use tap_base::Memory;
-use tql_core::{TNode, Var};
+use tql_core::{TNode, Var, intern_node};
 use tql_tree::Table;
 
 // What is known of a node: it is True, it is False, or neither.
@@ -19,21 +18,6 @@ pub(crate) enum FoldedNode {
     Yes,
     No,
     Open,
-}
-
-// Interns the node and returns its number. `Memory` comes if memory runs out or the pool has no
-// further number.
-pub(crate) fn shared(pool: &mut Pool<TNode>, node: TNode) -> Result<NodeId, Memory>
-    requires { are_below (length pool.old) (kids_of node) ≡ true }
-    ensures kept { OnOk result (KeepsTrees pool.old pool.new) }
-    ensures tree { IfOk result (λ id.
-        IsTreeAt pool.new id.0 (node_tree (Some node) (tree_at pool.old))) }
-{
-    if pool.len() == u32::MAX {
-        return Err(Memory);
-    }
-    let id = pool.intern(node)?;
-    Ok(id)
 }
 
 // Returns what is known of the node of this number.
@@ -54,9 +38,9 @@ pub(crate) fn shared_constant(pool: &mut Pool<TNode>, truth: bool) -> Result<Nod
     ensures tree { IfOk result (λ id. IsTreeAt pool.new id.0 (constant truth)) }
 {
     if truth {
-        shared(pool, TNode::True)
+        intern_node(pool, TNode::True)
     } else {
-        shared(pool, TNode::False)
+        intern_node(pool, TNode::False)
     }
 }
 
@@ -70,11 +54,11 @@ pub(crate) fn shared_all(pool: &mut Pool<TNode>, l: NodeId, r: NodeId) -> Result
         (tree_at pool.old r.0))) }
 {
     match (kind_of(pool, l), kind_of(pool, r)) {
-        (FoldedNode::No, _) => shared(pool, TNode::False),
+        (FoldedNode::No, _) => intern_node(pool, TNode::False),
         (FoldedNode::Yes, _) => Ok(r),
-        (_, FoldedNode::No) => shared(pool, TNode::False),
+        (_, FoldedNode::No) => intern_node(pool, TNode::False),
         (_, FoldedNode::Yes) => Ok(l),
-        _ => shared(pool, TNode::All(l, r)),
+        _ => intern_node(pool, TNode::All(l, r)),
     }
 }
 
@@ -88,11 +72,11 @@ pub(crate) fn shared_either(pool: &mut Pool<TNode>, l: NodeId, r: NodeId) -> Res
         (tree_at pool.old r.0))) }
 {
     match (kind_of(pool, l), kind_of(pool, r)) {
-        (FoldedNode::Yes, _) => shared(pool, TNode::True),
+        (FoldedNode::Yes, _) => intern_node(pool, TNode::True),
         (FoldedNode::No, _) => Ok(r),
-        (_, FoldedNode::Yes) => shared(pool, TNode::True),
+        (_, FoldedNode::Yes) => intern_node(pool, TNode::True),
         (_, FoldedNode::No) => Ok(l),
-        _ => shared(pool, TNode::Either(l, r)),
+        _ => intern_node(pool, TNode::Either(l, r)),
     }
 }
 
@@ -104,9 +88,9 @@ pub(crate) fn shared_not(pool: &mut Pool<TNode>, x: NodeId) -> Result<NodeId, Me
         IsTreeAt pool.new id.0 (fold_not (known (tree_at pool.old x.0)) (tree_at pool.old x.0))) }
 {
     match kind_of(pool, x) {
-        FoldedNode::Yes => shared(pool, TNode::False),
-        FoldedNode::No => shared(pool, TNode::True),
-        FoldedNode::Open => shared(pool, TNode::Not(x)),
+        FoldedNode::Yes => intern_node(pool, TNode::False),
+        FoldedNode::No => intern_node(pool, TNode::True),
+        FoldedNode::Open => intern_node(pool, TNode::Not(x)),
     }
 }
 
@@ -123,7 +107,7 @@ pub(crate) fn shared_exists(
         (fold_exists (known (tree_at pool.old x.0)) var table (tree_at pool.old x.0))) }
 {
     match kind_of(pool, x) {
-        FoldedNode::No => shared(pool, TNode::False),
-        _ => shared(pool, TNode::Exists(var, table, x)),
+        FoldedNode::No => intern_node(pool, TNode::False),
+        _ => intern_node(pool, TNode::Exists(var, table, x)),
     }
 }

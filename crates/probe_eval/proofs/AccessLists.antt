@@ -6,7 +6,7 @@ use Rattle.std.specs.List.{list_any, find}
 use Rattle.std.specs.Str.{bytes_eq}
 use Rattle.std.specs.Ordering.{int_eq, is_eq}
 use Rattle.std.proofs.lemmas.Int.{ints}
-use Rattle.std.proofs.lemmas.Bool.{cases_Bool}
+use Rattle.std.proofs.lemmas.Bool.{cases_Bool, eqb-true, eq-eqb}
 use Rattle.std.proofs.lemmas.Bool.Decides.{Decides-int_eq}
 use Rattle.std.proofs.lemmas.Map.Text.{is_eq-slice_cmp}
 use Rattle.std.proofs.lemmas.Option.{none-some}
@@ -36,6 +36,7 @@ use Rattle.probe_eval.specs.declared.kinds.FieldKind.TheVariants.{OfDocs, OfNote
 use Rattle.probe_eval.specs.Kinds.{field_kind, of_docs, list_kind}
 use Rattle.probe_eval.specs.Work.{rows_of_number, rows_of_text, rows_of_entry, rows_with}
 use Rattle.tap_rows.specs.Fields.{fields}
+use Rattle.tap_rows.proofs.Tests.{some_same, agree}
 use Rattle.tap_base.specs.Numbers.{IsMoment}
 
 module _ {A : Type 0} (of : A → Row) where
@@ -66,21 +67,9 @@ module _ {A : Type 0} (of : A → Row) where
 ne : (a k : ℕ) → k < a → nat_eq a k ≡ false
 ne a k h = grind arith
 
-eq_is : (a k : ℕ) → nat_eq a k ≡ true → a ≡ k
-eq_is a k h = grind arith
-
-is_eq_nat : (a k : ℕ) → a ≡ k → nat_eq a k ≡ true
-is_eq_nat a k h = grind arith
-
--- two tests that are true of each other's cases
-both_same : (a b : Bool) → (a ≡ true → b ≡ true) → (b ≡ true → a ≡ true) → a ≡ b
-both_same true b f g = sym (f refl)
-both_same false true f g = g refl
-both_same false false f g = refl
-
 pub same_number : (a k : ℕ) → nat_eq a k ≡ int_eq (pos a) (pos k)
-same_number a k = both_same (nat_eq a k) (int_eq (pos a) (pos k)) (λ e. (Decides-int_eq (pos a) (pos k)).1 (ap pos (eq_is a k e))) (λ e.
-    is_eq_nat a k (same ((Decides-int_eq (pos a) (pos k)).0 e)))
+same_number a k = agree (nat_eq a k) (int_eq (pos a) (pos k)) (λ e. (Decides-int_eq (pos a) (pos k)).1 (ap pos (eqb-true a k e))) (λ e.
+    eq-eqb a k (same ((Decides-int_eq (pos a) (pos k)).0 e)))
   where
     same : pos a ≡ pos k → a ≡ k
     same e = cc
@@ -95,7 +84,7 @@ one_found : (k n : ℕ) (ds : List Doc) → Numbered doc_number n ds
 one_found k n [] h = refl
 one_found k n (d ∷ ds) h =
     elim (cases_Bool (nat_eq d.num.0 k)) [
-      | inl e ↦ rw e (ap (λ zs. d ∷ zs) (sym (none_from k (n + 1) ds h.1 (past (sym h.0 ∙ eq_is d.num.0 k e)))))
+      | inl e ↦ rw e (ap (λ zs. d ∷ zs) (sym (none_from k (n + 1) ds h.1 (past (sym h.0 ∙ eqb-true d.num.0 k e)))))
       | inr e ↦ rw e (one_found k (n + 1) ds h.1)
     ]
   where
@@ -142,7 +131,7 @@ notes_picked notes o k e =
 
     turned : (k a : ℕ) → (nat_eq k a || false) ≡ int_eq (pos a) (pos k)
     turned k a = or_false (nat_eq k a)
-        ∙ both_same (nat_eq k a) (nat_eq a k) (λ e. is_eq_nat a k (sym (eq_is k a e))) (λ e. is_eq_nat k a (sym (eq_is a k e)))
+        ∙ agree (nat_eq k a) (nat_eq a k) (λ e. eq-eqb a k (sym (eqb-true k a e))) (λ e. eq-eqb k a (sym (eqb-true a k e)))
         ∙ same_number a k
 
 pub no_note : (notes : List Note) (o : Option ℤ) → ((k : ℕ) → k ≤ 4294967295 → both Eq (Some (pos k)) o ≡ false)
@@ -184,7 +173,7 @@ same_text : (x text : List ℕ) → bytes_eq text x ≡ is_eq (text_cmp x text)
 same_text x text = turned ∙ sym (is_eq-slice_cmp x text)
   where
     turned : bytes_eq text x ≡ bytes_eq x text
-    turned = both_same (bytes_eq text x) (bytes_eq x text) (λ e. (bytes_eq-Decides x text).1 (sym ((bytes_eq-Decides text x).0 e))) (λ e.
+    turned = agree (bytes_eq text x) (bytes_eq x text) (λ e. (bytes_eq-Decides x text).1 (sym ((bytes_eq-Decides text x).0 e))) (λ e.
         (bytes_eq-Decides text x).1 (sym ((bytes_eq-Decides x text).0 e)))
 
 -- a text that may be absent
@@ -201,9 +190,6 @@ pub word_asked : (xs : List (List ℕ)) (text : List ℕ)
     → list_any (λ other. bytes_eq text other) xs ≡ list_any (λ x. is_eq (text_cmp x text)) xs
 word_asked [] text = refl
 word_asked (x ∷ xs) text = rw (same_text x text, word_asked xs text) refl
-
-some_same : {A : Type 0} {x y : A} → Some x ≡ Some y → x ≡ y
-some_same e = cc
 
 notes_same : {x y : NoteTextKind} → OfNotes x ≡ OfNotes y → x ≡ y
 notes_same e = cc

@@ -3,7 +3,7 @@ use Rattle.std.proofs.Common.{◌≡◌, ◌∙◌, ℕ, ℤ, Bool, true, false,
 use Rattle.std.proofs.Common.{subst, inl, inr, nat_eq, if◌then◌else◌}
 use Rattle.std.specs.Prelude.{◌⊎◌, ◌&&◌, ◌||◌, is_some, unwrap_or, int_le, nat_le}
 use Rattle.std.specs.List.{list_any, list_all, flat_map, find}
-use Rattle.std.proofs.lemmas.Bool.{cases_Bool, and_parts, or_cases, false≢true, eq-eqb}
+use Rattle.std.proofs.lemmas.Bool.{cases_Bool, and_parts, or_cases, false≢true, eq-eqb, or_right}
 use Rattle.std.proofs.lemmas.Option.{none-some, cond_some}
 use Rattle.tap_base.specs.declared.numbers.Op.TheVariants.{Eq}
 use Rattle.tap_rows.specs.declared.tables.Tables.{Tables}
@@ -21,10 +21,10 @@ use Rattle.tql_core.specs.declared.atom.Atom.{Atom}
 use Rattle.tql_core.specs.declared.atom.Atom.TheVariants.{Numbers, Texts, Has}
 use Rattle.tql_core.specs.Row.{Row, arrival, rows_of}
 use Rattle.tql_core.specs.Values.{Env, bind, lookup, on_row, field, text_field, list_field, both, both_texts, has, true_atom}
+use Rattle.tql_core.proofs.Bound.{bind_other}
 use Rattle.time_marks.specs.declared.mark.Step.{Step}
 use Rattle.time_marks.specs.Probes.{come_by}
-use Rattle.time_marks.proofs.Lists.{any_in, any_same, all_in, or_right}
-use Rattle.time_marks.proofs.Envs.{bind_other}
+use Rattle.time_marks.proofs.Lists.{any_in, any_same, all_in}
 use Rattle.access_plan.specs.declared.access.Access.{Access}
 use Rattle.access_plan.specs.declared.access.Access.TheVariants.{ByNumber, ByText, ByEntry, ByEach, Whole}
 use Rattle.access_plan.specs.declared.reach.Reach.{Reach}

@@ -1,7 +1,8 @@
 -- A condition that is false beside all rows of a variable.
-use Rattle.std.proofs.Common.{◌≡◌, ◌∙◌, ℤ, pos, Bool, true, false, ◌&&◌, ℕ, Option, None, Some, List, [], ◌∷◌, refl, sym, subst}
+use Rattle.std.proofs.Common.{◌≡◌, ◌∙◌, ℤ, pos, false, ℕ, Option, None, Some, List, [], ◌∷◌, refl, sym, subst}
 use Rattle.std.specs.Prelude.{IfSome, is_none}
 use Rattle.std.specs.List.{flat_map}
+use Rattle.std.proofs.lemmas.Bool.{and_right}
 use Rattle.tap_base.specs.Bytes.{IsPlaceOf}
 use Rattle.tap_rows.specs.declared.tables.Tables.{Tables}
 use Rattle.tap_rows.specs.declared.results.Entry.{Entry}
@@ -12,10 +13,10 @@ use Rattle.tql_core.specs.Condition.{Condition, All, Exists}
 use Rattle.tql_core.specs.Row.{Row, OfDoc, OfNote, rows_of}
 use Rattle.tql_core.specs.Values.{Env, bind, lookup}
 use Rattle.tql_core.specs.Holds.{truth}
+use Rattle.tql_core.proofs.Bound.{bind_same, bind_other}
 use Rattle.access_plan.specs.Accesses.{is_other}
 use Rattle.access_plan.specs.declared.reach.Reach.{Reach}
 use Rattle.time_marks.specs.Probes.{Probe}
-use Rattle.time_marks.proofs.Envs.{bind_same, bind_other}
 use Rattle.probe_eval.specs.Conjuncts.{mentions, fixed_part}
 use Rattle.probe_eval.specs.declared.search.Search.{Search}
 use Rattle.probe_eval.specs.Searches.{pool_of, condition_at}
@@ -35,13 +36,9 @@ never_named T v x env n f final s = stays T (pos 0) v x env final s n ∙ f
 pub never_left : (T : Tables) (v : Var) (x l r : Condition) (env : Env) → x ≡ All l r → IsNever T v l env → IsNever T v x env
 never_left T v x l r env e n = subst (λ z. IsNever T v z env) (sym e) (λ final s. rw (n final s) refl)
 
-and_false : (a b : Bool) → b ≡ false → (a && b) ≡ false
-and_false true b e = e
-and_false false b e = refl
-
 pub never_right : (T : Tables) (v : Var) (x l r : Condition) (env : Env) → x ≡ All l r → IsNever T v r env → IsNever T v x env
 never_right T v x l r env e n =
-    subst (λ z. IsNever T v z env) (sym e) (λ final s. and_false (truth T (pos 0) l final) (truth T (pos 0) r final) (n final s))
+    subst (λ z. IsNever T v z env) (sym e) (λ final s. and_right (truth T (pos 0) l final) (truth T (pos 0) r final) (n final s))
 
 -- so is a conjunct of an EXISTS that doesn't name its variable
 pub never_exists : (T : Tables) (v w : Var) (t : Table) (x : Condition) (env : Env) (row : Row)
@@ -100,7 +97,7 @@ module _ (entries : List Entry) (T : Tables) (p : Probe) (b : ℤ) (order : List
       let x = bind v (OfDoc d) env in
       let f : truth T (pos 0) p.body x ≡ false = never_beside T query_var v p.body env row (OfDoc d) e n in
       doc_hits entries T p b order x d (bound_at (OfDoc d))
-      ∙ no_hit (holds_here T p b order x) b (new_doc entries d) (and_false (rest_of T p.path b order x) (truth T (pos 0) p.body x) f)
+      ∙ no_hit (holds_here T p b order x) b (new_doc entries d) (and_right (rest_of T p.path b order x) (truth T (pos 0) p.body x) f)
 
   pub never_hits : (left : List Row) → flat_map (λ other. hits_over entries T p b order (bind v other env)) left ≡ []
   never_hits [] = refl

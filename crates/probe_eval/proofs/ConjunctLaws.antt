@@ -1,16 +1,17 @@
 -- An EXISTS whose conjuncts that don't name its variable are evaluated once.
-use Rattle.std.proofs.Common.{◌≡◌, ◌∙◌, ◌+◌, ◌≤◌, ℕ, ℤ, pos, Bool, true, false, not, ◌&&◌, ◌||◌, List, [], ◌∷◌, refl, sym, ap, subst, inl}
+use Rattle.std.proofs.Common.{◌≡◌, ◌∙◌, ◌+◌, ◌≤◌, ℕ, ℤ, pos, Bool, true, false, not, ◌&&◌, List, [], ◌∷◌, refl, sym, ap, subst, inl}
 use Rattle.std.proofs.Common.{inr, arith, if◌then◌else◌}
 use Rattle.std.specs.List.{list_any}
-use Rattle.std.proofs.lemmas.Bool.{cases_Bool, cases_eq, eq-eqb, false≢true}
+use Rattle.std.proofs.lemmas.Bool.{cases_Bool, cases_eq, eq-eqb, false≢true, or_parts, not-false}
 use Rattle.tap_rows.specs.declared.tables.Tables.{Tables}
+use Rattle.tap_rows.proofs.Tests.{and_swapped}
 use Rattle.tql_core.specs.declared.term.Var.{Var}
 use Rattle.tql_core.specs.Condition.{Condition, Always, Never, Plain, NowAtLeast, NowBefore, All, Either, Not, Exists}
 use Rattle.tql_core.specs.Row.{Row, rows_of}
 use Rattle.tql_core.specs.Values.{Env, bind, lookup}
 use Rattle.tql_core.specs.Holds.{truth}
+use Rattle.tql_core.proofs.Bound.{bind_same, bind_other}
 use Rattle.time_marks.proofs.Lists.{any_same}
-use Rattle.time_marks.proofs.Envs.{bind_same, bind_other}
 use Rattle.access_plan.specs.Accesses.{is_other}
 use Rattle.access_plan.specs.Laws.{AreSame}
 use Rattle.probe_eval.specs.Open.{base_known, atom_known}
@@ -36,27 +37,19 @@ bound_same known w r env final same k h =
       | inr n ↦ bind_other k w r final n ∙ same k h ∙ sym (bind_other k w r env n)
     ]
 
-not_true : (b : Bool) → not b ≡ false → b ≡ true
-not_true true h = refl
-not_true false h = absurd (false≢true (sym h))
-
-neither : (a b : Bool) → (a || b) ≡ false → (a ≡ false) × (b ≡ false)
-neither false b h = (refl, h)
-neither true b h = absurd (false≢true (sym h))
-
 -- a condition that doesn't name v has one truth for all rows of v
 pub stays : (T : Tables) (n : ℤ) (v : Var) (x : Condition) (env final : Env) → AreSame (is_other v) env final → mentions v x ≡ false
     → truth T n x final ≡ truth T n x env
 stays T n v Always env final s h = refl
 stays T n v Never env final s h = refl
-stays T n v (Plain a) env final s h = atom_is (is_other v) env final s a (not_true (atom_known (is_other v) a) h)
-stays T n v (NowAtLeast e) env final s h = rw (value_is (is_other v) env final s e (not_true (base_known (is_other v) e.base) h))
-stays T n v (NowBefore e) env final s h = rw (value_is (is_other v) env final s e (not_true (base_known (is_other v) e.base) h))
+stays T n v (Plain a) env final s h = atom_is (is_other v) env final s a (not-false (atom_known (is_other v) a) h)
+stays T n v (NowAtLeast e) env final s h = rw (value_is (is_other v) env final s e (not-false (base_known (is_other v) e.base) h))
+stays T n v (NowBefore e) env final s h = rw (value_is (is_other v) env final s e (not-false (base_known (is_other v) e.base) h))
 stays T n v (All l r) env final s h =
-    let k = neither (mentions v l) (mentions v r) h in
+    let k = or_parts (mentions v l) (mentions v r) h in
     rw (stays T n v l env final s k.0, stays T n v r env final s k.1)
 stays T n v (Either l r) env final s h =
-    let k = neither (mentions v l) (mentions v r) h in
+    let k = or_parts (mentions v l) (mentions v r) h in
     rw (stays T n v l env final s k.0, stays T n v r env final s k.1)
 stays T n v (Not x) env final s h = ap not (stays T n v x env final s h)
 stays T n v (Exists w t x) env final s h =
@@ -84,12 +77,6 @@ work_one : (T : Tables) (b : Bool) (x : Condition) (env : Env)
 work_one T true x env = omega arith
 work_one T false x env = omega arith
 
-paired : (a b c d : Bool) → ((a && b) && (c && d)) ≡ ((a && c) && (b && d))
-paired true b true d = refl
-paired true true false d = refl
-paired true false false d = refl
-paired false b c d = refl
-
 -- the fixed conjuncts have one truth for all rows of v
 fixed_stays : (T : Tables) (n : ℤ) (v : Var) (x : Condition) (env final : Env) → AreSame (is_other v) env final
     → truth T n (fixed_part v x) final ≡ truth T n (fixed_part v x) env
@@ -107,7 +94,8 @@ fixed_stays T n v (Exists w t x) env final s = fixed_one T n v (Exists w t x) en
 splits : (T : Tables) (n : ℤ) (v : Var) (x : Condition) (env : Env)
     → truth T n x env ≡ (truth T n (fixed_part v x) env && truth T n (own_part v x) env)
 splits T n v (All l r) env = rw (splits T n v l env, splits T n v r env)
-    (paired (truth T n (fixed_part v l) env) (truth T n (own_part v l) env) (truth T n (fixed_part v r) env) (truth T n (own_part v r) env))
+    (and_swapped (truth T n (fixed_part v l) env) (truth T n (own_part v l) env) (truth T n (fixed_part v r) env)
+    (truth T n (own_part v r) env))
 splits T n v Always env = refl
 splits T n v Never env = refl
 splits T n v (Plain a) env = split_one T n (mentions v (Plain a)) (Plain a) env

@@ -20,8 +20,8 @@ use Rattle.tql_core.specs.Condition.{Condition, All}
 use Rattle.tql_core.specs.Exact.{term_is}
 use Rattle.tql_core.specs.Row.{Row, OfDoc, arrival}
 use Rattle.tql_core.specs.Values.{Env, bind, on_row, plus_to, field, value, number, compare, both, true_atom}
+use Rattle.tql_core.proofs.Bound.{bind_same, bind_other}
 use Rattle.time_marks.specs.Marks.{arrival_term, guards_of}
-use Rattle.time_marks.proofs.Envs.{bind_same, bind_other}
 use Rattle.row_index.specs.declared.cut.Limit.{Limit}
 use Rattle.row_index.specs.declared.cut.Limit.TheVariants.{Below, UpTo, From, Above}
 use Rattle.row_index.specs.declared.cut.Order.{Order}

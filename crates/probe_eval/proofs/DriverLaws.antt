@@ -1,9 +1,9 @@
 -- The driving rows are just those whose mark lies in the window.
-use Rattle.std.proofs.Common.{◌≡◌, ℤ, pos, Bool, true, false, List, [], ◌∷◌, Option, Some, None, refl, sym, ap, ◌∙◌, subst, inl, inr, map}
+use Rattle.std.proofs.Common.{◌≡◌, ℤ, pos, true, false, List, [], ◌∷◌, Option, Some, None, refl, sym, ap, ◌∙◌, subst, inl, inr, map}
 use Rattle.std.proofs.Common.{is_some}
 use Rattle.std.specs.Prelude.{◌⊎◌, ◌&&◌, filter, fold, int_le, int_lt}
 use Rattle.std.specs.Option.{unwrap_or}
-use Rattle.std.proofs.lemmas.Bool.{cases_Bool, false≢true, and_parts}
+use Rattle.std.proofs.lemmas.Bool.{cases_Bool, false≢true, and_parts, and_from}
 use Rattle.tap_rows.specs.declared.rows.Doc.{Doc}
 use Rattle.tap_rows.specs.declared.tables.Tables.{Tables}
 use Rattle.tql_tree.specs.declared.table.Table.{Table}
@@ -13,6 +13,7 @@ use Rattle.tql_core.specs.Bounds.{is_bounded}
 use Rattle.tql_core.specs.Row.{Row, OfDoc, OfNote, arrival, date, rows_of}
 use Rattle.tap_rows.specs.Kept.{In}
 use Rattle.tql_core.specs.Values.{bind, lookup, on_row, value}
+use Rattle.tql_core.proofs.Bound.{bind_same}
 use Rattle.row_index.specs.Orders.{in_window, doc_arrival, note_arrival}
 use Rattle.row_index.specs.Dates.{has_date, stored_date, is_earlier, put_dated, in_date_order, dated_in}
 use Rattle.time_marks.specs.declared.seek.Seek.{Seek}
@@ -21,16 +22,13 @@ use Rattle.time_marks.specs.declared.window.Window.{Window}
 use Rattle.time_marks.specs.Windows.{is_within}
 use Rattle.time_marks.specs.Seeks.{seek_of, seek_window, driving_second, lies_in}
 use Rattle.time_marks.specs.Probes.{Probe}
-use Rattle.time_marks.proofs.Envs.{bind_same}
 use Rattle.time_marks.proofs.Lists.{in_map, map_in}
 use Rattle.time_marks.proofs.SeekLaws.{solved}
 use Rattle.probe_eval.specs.Drivers.{seek_var, arrived_rows, dated_rows, stored_rows, driving}
 use Rattle.probe_eval.specs.Tables.{table_in}
 use Rattle.probe_eval.proofs.Members.{in_filter, to_filter}
 use Rattle.tap_rows.specs.Fields.{fields}
-
-some_same : {A : Type 0} {x y : A} → Some x ≡ Some y → x ≡ y
-some_same e = cc
+use Rattle.tap_rows.proofs.Tests.{some_same}
 
 -- documents in order of date
 in_put : (x d : Doc) (ds : List Doc) → In x (put_dated d ds) → (x ≡ d) ⊎ In x ds
@@ -96,10 +94,6 @@ date_lies w d = go (fields d).date
     go None = refl
     go (Some x) = refl
 
-both_true : (a b : Bool) → a ≡ true → b ≡ true → (a && b) ≡ true
-both_true true b h k = k
-both_true false b h k = h
-
 module _ (w : Window) (T : Tables) where
   module _ {A : Type 0} (of : A → Row) (f : A → ℤ) (xs : List A) (same : (x : A) → arrival (of x) ≡ f x) where
     arrived_in : (row : Row) → In row (map of (in_window f w.low w.high xs)) → In row (map of xs) × (is_within w (arrival row) ≡ true)
@@ -134,7 +128,7 @@ module _ (w : Window) (T : Tables) where
       let o = in_order_of k.0 T.docs j.0 in (
         subst (λ z. In z (map OfDoc T.docs)) (sym k.2) (in_map OfDoc T.docs k.0 o.0),
         ap (λ z. lies_in w (date z)) k.2 ∙ date_lies w k.0
-            ∙ both_true (has_date k.0) _ o.1 j.1,
+            ∙ and_from (has_date k.0) _ o.1 j.1,
       )
 
   are_dated : (t : Table) (row : Row) → In row (rows_of t T) → lies_in w (date row) ≡ true → In row (dated_rows t w T)

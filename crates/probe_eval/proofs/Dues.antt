@@ -11,6 +11,7 @@ use Rattle.tql_core.specs.Bounds.{is_bounded}
 use Rattle.tql_core.specs.Holds.{asked_of}
 use Rattle.tql_core.specs.Row.{Row, OfDoc, OfNote, date, rows_of}
 use Rattle.tap_rows.specs.Kept.{In}
+use Rattle.tap_rows.proofs.Tests.{some_same}
 use Rattle.tql_core.specs.Values.{Env, bind, lookup, value}
 use Rattle.row_index.specs.Orders.{in_window, doc_arrival}
 use Rattle.row_index.specs.Dates.{dated_in}
@@ -47,9 +48,6 @@ use Rattle.probe_eval.proofs.StepLaws.{step_table, next_less}
 use Rattle.access_plan.specs.Nearest.{IsNearest}
 use Rattle.access_plan.proofs.Nearests.{nearest_serves}
 use Rattle.probe_eval.specs.Rests.{further, cost_of, rest_of}
-
-some_same : {A : Type 0} {x y : A} → Some x ≡ Some y → x ≡ y
-some_same e = cc
 
 no_mark : (w : Window) (o : Option ℤ) → lies_in w o ≡ false → mark_in w o ≡ None
 no_mark w None h = refl

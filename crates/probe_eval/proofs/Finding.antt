@@ -1,9 +1,10 @@
 -- The hits of a probe are just the marks that it finds.
-use Rattle.std.proofs.Common.{◌≡◌, ℕ, suc, ◌≤◌, ℤ, Bool, true, not, List, [], ◌∷◌, ◌++◌, Option, Some, None, length, refl, sym, ap, ◌∙◌}
-use Rattle.std.proofs.Common.{subst, inl, inr, arith, map}
+use Rattle.std.proofs.Common.{◌≡◌, ℕ, ◌≤◌, ℤ, Bool, true, not, List, [], ◌∷◌, ◌++◌, Option, Some, None, length, refl, sym, ap, ◌∙◌}
+use Rattle.std.proofs.Common.{subst, inl, inr, arith}
 use Rattle.std.specs.Prelude.{◌⊎◌, int_le, option_to_list}
 use Rattle.std.specs.List.{filter}
 use Rattle.std.proofs.lemmas.Bool.{cases_Bool, and_from, false≢true}
+use Rattle.row_index.proofs.ListWindows.{mapped_length}
 use Rattle.tap_rows.specs.declared.tables.Tables.{Tables}
 use Rattle.tap_rows.specs.declared.results.Hit.{Hit}
 use Rattle.tap_rows.specs.declared.results.Entry.{Entry}
@@ -15,7 +16,9 @@ use Rattle.tql_core.specs.Bounds.{is_bounded}
 use Rattle.tql_core.specs.Row.{Row, arrival, rows_of}
 use Rattle.tql_core.specs.Scope.{BaseIn}
 use Rattle.tap_rows.specs.Kept.{In}
+use Rattle.tap_rows.proofs.Tests.{some_same}
 use Rattle.tql_core.specs.Values.{Env, bind, lookup, value}
+use Rattle.tql_core.proofs.Bound.{bind_same}
 use Rattle.time_marks.specs.declared.mark.Step.{Step}
 use Rattle.time_marks.specs.declared.window.Window.{Window}
 use Rattle.time_marks.specs.Windows.{is_within}
@@ -23,7 +26,7 @@ use Rattle.time_marks.specs.Seeks.{seek_of, lies_in}
 use Rattle.time_marks.specs.Probes.{Probe, finds, come_by}
 use Rattle.time_marks.specs.Found.{vars_of, base_vars, Distinct, IsProbe, Finds}
 use Rattle.time_marks.proofs.Lists.{in_map, map_in, in_right, append_in}
-use Rattle.time_marks.proofs.Envs.{bind_same, value_same}
+use Rattle.time_marks.proofs.Envs.{value_same}
 use Rattle.time_marks.proofs.Orders.{finds_rows, rows_find}
 use Rattle.access_plan.specs.declared.reach.Reach.{Reach}
 use Rattle.access_plan.specs.Accesses.{is_held}
@@ -38,9 +41,6 @@ use Rattle.probe_eval.proofs.DriverLaws.{driven_are, are_driven}
 use Rattle.probe_eval.proofs.OpenLaws.{held_was, row_held}
 use Rattle.probe_eval.proofs.Tables.{table_is}
 use Rattle.probe_eval.proofs.Nesting.{IsFoundBy, HasDriver, base_own, hits_sound, hits_complete, found_rows}
-
-some_same : {A : Type 0} {x y : A} → Some x ≡ Some y → x ≡ y
-some_same e = cc
 
 -- a mark in the window
 mark_parts : (w : Window) (o : Option ℤ) (b : ℤ) → mark_in w o ≡ Some b → (o ≡ Some b) × (is_within w b ≡ true)
@@ -120,18 +120,14 @@ few_distinct q (s ∷ path) d = elim (cases_Bool (q s)) [
         let k = map_in (λ (x : Step). x.var.0) (filter q path) s.var.0 i in
         subst (λ z. In z (vars_of path)) (sym k.2) (in_map (λ (x : Step). x.var.0) path k.0 (in_filter q path k.0 k.1).0)
 
-length_map : {A C : Type 0} (f : A → C) (xs : List A) → length (map f xs) ≡ length xs
-length_map f [] = refl
-length_map f (x ∷ xs) = ap suc (length_map f xs)
-
 module _ (entries : List Entry) (T : Tables) (w : Window) (p : Probe) (order : List Reach) (k : IsProbe p)
     (o : IsOrder p.path p.at.base order) where
   -- after the driver no more steps are left than the order has
   order_left : (env : Env) → HasDriver p env → left_of p.path env ≤ length order
   order_left env dr =
       let l = no_more (vars_of (filter (is_left env) p.path)) (order_vars order) (few_distinct (is_left env) p.path k.once) ordered in
-      let a = length_map (λ (s : Step). s.var.0) (filter (is_left env) p.path) in
-      let c = length_map (λ (r : Reach). r.var.0) order in
+      let a = mapped_length (λ (s : Step). s.var.0) (filter (is_left env) p.path) in
+      let c = mapped_length (λ (r : Reach). r.var.0) order in
       sums _ _ _ _ l a c
     where
       sums : (vs os left rs : ℕ) → vs ≤ os → vs ≡ left → os ≡ rs → left ≤ rs

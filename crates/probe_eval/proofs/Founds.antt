@@ -1,9 +1,9 @@
 -- The hits of all parts are just the marks that their query finds.
-use Rattle.std.proofs.Common.{◌≡◌, ℕ, suc, ◌+◌, ◌<◌, ◌≤◌, ℤ, true, List, [], ◌∷◌, ◌++◌, length, refl, sym, ap, ◌∙◌, subst, inl, inr, arith}
-use Rattle.std.proofs.Common.{map}
-use Rattle.std.specs.Prelude.{◌⊎◌, int_le, int_lt, nat_lt, ◌≤ℤ◌, ◌<ℤ◌, option_to_list}
+use Rattle.std.proofs.Common.{◌≡◌, ℕ, ◌+◌, ◌<◌, ◌≤◌, ℤ, true, List, [], ◌∷◌, ◌++◌, length, refl, sym, ap, ◌∙◌, subst, inl, inr, arith}
+use Rattle.std.specs.Prelude.{◌⊎◌, int_le, int_lt, nat_lt, ◌<ℤ◌, option_to_list}
 use Rattle.std.proofs.lemmas.Int.{ints}
 use Rattle.std.proofs.lemmas.Bool.{and_parts, and_from}
+use Rattle.row_index.proofs.ListWindows.{mapped_length}
 use Rattle.tap_rows.specs.declared.tables.Tables.{Tables}
 use Rattle.tap_rows.specs.declared.results.Hit.{Hit}
 use Rattle.tap_rows.specs.declared.results.Entry.{Entry}
@@ -13,6 +13,7 @@ use Rattle.tql_core.specs.declared.term.Base.TheVariants as B
 use Rattle.tql_core.specs.declared.term.Term.{Term}
 use Rattle.tql_core.specs.Bounds.{is_near, is_bounded, is_bounded_base}
 use Rattle.tap_rows.specs.Kept.{In}
+use Rattle.tap_rows.proofs.Tests.{le_yes, lt_yes, le_from}
 use Rattle.tql_core.specs.Trees.{tree_at}
 use Rattle.time_marks.specs.declared.mark.Step.{Step}
 use Rattle.time_marks.specs.declared.ranged.Ranged.{Ranged}
@@ -36,15 +37,6 @@ use Rattle.probe_eval.proofs.Members.{from_flat, to_flat, no_more}
 use Rattle.probe_eval.proofs.Nesting.{IsFoundBy}
 use Rattle.probe_eval.proofs.Finding.{driven_is, driven_in, seek_sound, seek_complete}
 
-le_to : (x y : ℤ) → x ≤ℤ y → int_le x y ≡ true
-le_to x y h = grind (arith, ints)
-
-lt_to : (x y : ℤ) → x <ℤ y → int_lt x y ≡ true
-lt_to x y h = grind (arith, ints)
-
-le_back : (x y : ℤ) → int_le x y ≡ true → x ≤ℤ y
-le_back x y h = grind (arith, ints)
-
 lt_back : (x y : ℤ) → int_lt x y ≡ true → x <ℤ y
 lt_back x y h = grind (arith, ints)
 
@@ -59,10 +51,6 @@ near_plus at h = let k = and_parts (is_near at.plus) (is_bounded_base at.base at
     go B.Fixed plus h b = refl
     go (B.ArrivalDay v n) plus h b = (and_parts (is_near n) _ b).0
     go (B.DateDay v n) plus h b = (and_parts (is_near n) _ b).0
-
-length_map : {A C : Type 0} (f : A → C) (xs : List A) → length (map f xs) ≡ length xs
-length_map f [] = refl
-length_map f (x ∷ xs) = ap suc (length_map f xs)
 
 length_append : (xs ys : List ℕ) → length (xs ++ ys) ≡ length xs + length ys
 length_append [] ys = omega arith
@@ -86,9 +74,9 @@ bound_fit p k =
     let os = order_vars (order_of p.path p.at.base) in
     let l = no_more (vs ++ os) (vars_of p.path) o.once (λ j i. within o j (append_in vs os j i)) in
     let a = length_append vs os in
-    let b = length_map (λ (v : Var). v.0) (driven p.at.base) in
-    let c = length_map (λ (r : Reach). r.var.0) (order_of p.path p.at.base) in
-    let d = length_map (λ (s : Step). s.var.0) p.path in
+    let b = mapped_length (λ (v : Var). v.0) (driven p.at.base) in
+    let c = mapped_length (λ (r : Reach). r.var.0) (order_of p.path p.at.base) in
+    let d = mapped_length (λ (s : Step). s.var.0) p.path in
     let e = ap length (driven_is p.at) in
     sums _ _ _ _ _ _ _ _ l a b c d e
   where
@@ -160,7 +148,7 @@ module _ (q : RangedQuery) where
                 num = f.num;
                 at = in_any (finds T f.doc h.first) (ranged_probes q) p
                     (in_map (λ (part : Ranged). probe_in q.pool part.probe) q.parts a.0 a.1) f.at;
-                low = le_back w.low h.first b.0;
+                low = le_from w.low h.first b.0;
                 high = lt_back h.first w.high b.1;
               }
 
@@ -175,7 +163,7 @@ module _ (q : RangedQuery) where
                 unseen = f.unseen;
                 num = f.num;
                 at = subst (λ z. finds T f.doc h.first z ≡ true) a.2 x.2;
-                within = and_from _ _ (le_to w.low h.first f.low) (lt_to h.first w.high f.high);
+                within = and_from _ _ (le_yes w.low h.first f.low) (lt_yes h.first w.high f.high);
               } in
               to_flat (part_hits entries T w q.pool) q.parts a.0 h a.1
               (to_seek a.0 h (seek_complete entries T w p (part_order a.0) (part_probe a.0 a.1) (orders_serve p.path p.at.base)

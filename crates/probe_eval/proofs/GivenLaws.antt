@@ -4,6 +4,7 @@ use Rattle.std.specs.Prelude.{Bool, unwrap_or}
 use Rattle.std.specs.List.{flat_map}
 use Rattle.std.proofs.lemmas.List.{length-append}
 use Rattle.tap_rows.specs.declared.tables.Tables.{Tables}
+use Rattle.tap_rows.proofs.Tests.{some_same, none_some}
 use Rattle.tql_tree.specs.declared.table.Table.{Table}
 use Rattle.tql_core.specs.declared.term.Var.{Var}
 use Rattle.tql_core.specs.declared.atom.Atom.{Atom}
@@ -51,12 +52,6 @@ no_guards known v t (a ∷ guards) e = absurd (omega (arith, e))
 pub no_steps : (path : List Step) (env : Env) (v : Var) (t : Table) → length path ≡ 0 → step_accesses path env v t ≡ []
 no_steps [] env v t e = refl
 no_steps (step ∷ path) env v t e = absurd (omega (arith, e))
-
-some_same : {A : Type 0} {x y : A} → Some x ≡ Some y → x ≡ y
-some_same e = cc
-
-none_some : {A : Type 0} {x : A} → None ≡ Some x → ⊥
-none_some e = cc
 
 -- the access by which rows are walked
 module _ (path : List Step) (env : Env) (r : Reach) where

@@ -1,14 +1,12 @@
 -- What the search for the least second finds.
-use Rattle.std.proofs.Common.{◌≡◌, ◌∙◌, sym, ap, subst, arith, ℕ, zero, suc, ℤ, pos, Bool, true, false, Some, None, inl, inr}
+use Rattle.std.proofs.Common.{◌≡◌, subst, arith, ℕ, zero, suc, ℤ, pos, Bool, true, false, Some, None, inl, inr}
 use Rattle.std.specs.Prelude.{◌+ℤ◌, ◌≤ℤ◌, ◌<ℤ◌}
 use Rattle.std.specs.Int.{int_gap}
 use Rattle.std.proofs.lemmas.Bool.{cases_Bool, both_ways}
 use Rattle.std.proofs.lemmas.Int.{ints}
 use Rattle.tap_rows.specs.Seconds.{first_from, least_second}
-use Rattle.tap_rows.proofs.SecondsLaws.{first_from-none, gap-within}
-
-some_same : {A : Type 0} {x y : A} → Some x ≡ Some y → x ≡ y
-some_same e = cc
+use Rattle.tap_rows.proofs.SecondsLaws.{first_from-none, gap-within, first_from-passes}
+use Rattle.tap_rows.proofs.Tests.{some_same}
 
 next_le : (a x : ℤ) → a ≤ℤ x → (x ≡ a → ⊥) → (a +ℤ pos 1) ≤ℤ x
 next_le a x h n = grind (arith, ints)
@@ -24,21 +22,13 @@ first_least p (suc n) a b x h lo q =
     beyond : p a ≡ false → (a +ℤ pos 1) ≤ℤ x
     beyond z = next_le a x lo (λ e. both_ways (p a) z (subst (λ k. p k ≡ true) e q))
 
-first_passes : (p : ℤ → Bool) (n : ℕ) (a b : ℤ) → first_from p n a ≡ Some b → p b ≡ true
-first_passes p zero a b h = absurd cc
-first_passes p (suc n) a b h =
-    elim (cases_Bool (p a)) [
-      | inl y ↦ ap p (sym (some_same (rw y at h))) ∙ y
-      | inr z ↦ first_passes p n (a +ℤ pos 1) b (rw z at h)
-    ]
-
 -- nothing passes if no second is found
 pub least_none : (p : ℤ → Bool) (a t x : ℤ) → least_second p a t ≡ None → a ≤ℤ x → x <ℤ t → p x ≡ false
 least_none p a t x h lo hi = first_from-none p (int_gap a t) a x h lo (gap-within a t x lo hi)
 
 -- it passes
 pub least_passes : (p : ℤ → Bool) (a t b : ℤ) → least_second p a t ≡ Some b → p b ≡ true
-least_passes p a t b h = first_passes p (int_gap a t) a b h
+least_passes p a t b h = first_from-passes p (int_gap a t) a b h
 
 -- no lesser one does
 pub least_least : (p : ℤ → Bool) (a t b x : ℤ) → least_second p a t ≡ Some b → a ≤ℤ x → p x ≡ true → b ≤ℤ x

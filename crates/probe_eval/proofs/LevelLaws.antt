@@ -1,9 +1,9 @@
 -- The rows that are walked next: what is found beside them, and what they cost.
 use Rattle.std.proofs.Common.{◌≡◌, ◌∙◌, ◌+◌, ◌≤◌, ℕ, ℤ, pos, Bool, true, false, not, Option, Some, None, List, [], ◌∷◌, ◌++◌, refl, sym, ap}
 use Rattle.std.proofs.Common.{subst, arith, nat_eq, if◌then◌else◌}
-use Rattle.std.specs.Prelude.{◌&&◌, ◌||◌, option_to_list}
+use Rattle.std.specs.Prelude.{◌&&◌, option_to_list}
 use Rattle.std.specs.List.{list_any, flat_map}
-use Rattle.std.proofs.lemmas.Bool.{and_parts, eqb-true}
+use Rattle.std.proofs.lemmas.Bool.{and_parts, eqb-true, or_parts}
 use Rattle.tap_base.specs.declared.numbers.DocNum.{DocNum}
 use Rattle.tap_rows.specs.declared.rows.Doc.{Doc}
 use Rattle.tap_rows.specs.declared.tables.Tables.{Tables}
@@ -12,8 +12,8 @@ use Rattle.tql_core.specs.declared.term.Var.{Var}
 use Rattle.tql_core.specs.Row.{Row, OfDoc, OfNote}
 use Rattle.tql_core.specs.Holds.{truth}
 use Rattle.tql_core.specs.Values.{Env, bind, lookup}
+use Rattle.tql_core.proofs.Bound.{bind_same}
 use Rattle.time_marks.specs.Probes.{Probe}
-use Rattle.time_marks.proofs.Envs.{bind_same}
 use Rattle.access_plan.specs.declared.reach.Reach.{Reach}
 use Rattle.access_plan.specs.Nearest.{nearest}
 use Rattle.probe_eval.specs.Open.{path_apart}
@@ -34,10 +34,6 @@ no_hit c b o h = subst (λ z. option_to_list (hit_if z b o) ≡ []) (sym h) (go 
     go : (o : Option DocNum) → option_to_list (hit_if false b o) ≡ []
     go None = refl
     go (Some num) = refl
-
-none_first : (a c : Bool) → (a || c) ≡ false → (a ≡ false) × (c ≡ false)
-none_first true c h = absurd cc
-none_first false c h = (refl, h)
 
 module _ (T : Tables) (p : Probe) (b : ℤ) where
   -- the rest beside env is that beside some row of the next step
@@ -138,7 +134,7 @@ module _ (entries : List Entry) (T : Tables) (p : Probe) (b : ℤ) where
       → flat_map (λ row. hits_over entries T p b rs (bind v row env)) rows ≡ []
   no_rests rs env v [] z h = refl
   no_rests rs env v (row ∷ rows) z h =
-      let k = none_first (rest_of T p.path b rs (bind v row env)) (list_any (λ row. rest_of T p.path b rs (bind v row env)) rows) h in
+      let k = or_parts (rest_of T p.path b rs (bind v row env)) (list_any (λ row. rest_of T p.path b rs (bind v row env)) rows) h in
       ap (λ xs. xs ++ flat_map (λ row. hits_over entries T p b rs (bind v row env)) rows) (no_rest rs env v row z k.0)
       ∙ no_rests rs env v rows z k.1
 
@@ -147,7 +143,7 @@ module _ (entries : List Entry) (T : Tables) (p : Probe) (b : ℤ) where
       → lookup 0 env ≡ None → further p.path b env ≡ Some r → once ≡ is_once p.path env rs r.var
       → is_walked T p b once order env ≡ false → hits_over entries T p b order env ≡ []
   none_walked once order x rs env r q e f o w =
-      let k = none_first (not once) (rest_of T p.path b order env) w in
+      let k = or_parts (not once) (rest_of T p.path b order env) w in
       let y : once ≡ true = was_true once k.0 in
       let a = is_apart_once T p b env rs r.var (sym o ∙ y) in
       ap (λ z. hits_over entries T p b z env) q ∙ next_hits entries T p b x rs env r e f

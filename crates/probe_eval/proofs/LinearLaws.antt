@@ -1,7 +1,7 @@
 -- Where each row is found by an index, the bound is linear in the rows that are due.
 use Rattle.std.proofs.Common.{◌≡◌, ◌∙◌, ℕ, zero, suc, ◌+◌, ◌*◌, ◌≤◌, ℤ, Bool, true, false, Option, Some, None, List, [], ◌∷◌, length, refl}
 use Rattle.std.proofs.Common.{sym, ap, subst, inl, inr, arith, if◌then◌else◌}
-use Rattle.std.specs.Prelude.{◌⊎◌, ◌&&◌, nat_eq, nat_le}
+use Rattle.std.specs.Prelude.{◌⊎◌, ◌&&◌, nat_eq}
 use Rattle.std.proofs.lemmas.Bool.{cases_Bool, false≢true}
 use Rattle.tap_rows.specs.declared.rows.Doc.{Doc}
 use Rattle.tap_rows.specs.declared.tables.Tables.{Tables}
@@ -9,11 +9,12 @@ use Rattle.tap_rows.specs.Kept.{In}
 use Rattle.tql_core.specs.declared.term.Var.{Var}
 use Rattle.tql_core.specs.Row.{Row, OfDoc, OfNote, rows_of}
 use Rattle.tql_core.specs.Values.{Env, bind, lookup, value}
+use Rattle.tql_core.proofs.Bound.{bind_same}
 use Rattle.time_marks.specs.declared.mark.Step.{Step}
-use Rattle.time_marks.specs.Found.{IsProbe, higher}
+use Rattle.time_marks.specs.Found.{IsProbe}
 use Rattle.time_marks.specs.Probes.{Probe}
 use Rattle.time_marks.specs.Seeks.{seek_of}
-use Rattle.time_marks.proofs.Envs.{bind_same}
+use Rattle.time_marks.proofs.Depth.{higher_left, higher_right}
 use Rattle.access_plan.specs.declared.reach.Reach.{Reach}
 use Rattle.access_plan.specs.Accesses.{is_held}
 use Rattle.access_plan.proofs.Nearests.{nearest_serves}
@@ -86,20 +87,6 @@ passed_less false a m h = h
 
 none_more : (a m : ℕ) → a ≤ 0 + m → a ≤ m
 none_more a m h = omega (arith, h)
-
-higher_left : (a b : ℕ) → a ≤ higher a b
-higher_left a b = go (nat_le a b) refl
-  where
-    go : (c : Bool) → nat_le a b ≡ c → a ≤ (if c then b else a)
-    go true e = grind arith
-    go false e = omega arith
-
-higher_right : (a b : ℕ) → b ≤ higher a b
-higher_right a b = go (nat_le a b) refl
-  where
-    go : (c : Bool) → nat_le a b ≡ c → b ≤ (if c then b else a)
-    go true e = omega arith
-    go false e = grind arith
 
 sum_less : (d : Bool) (a y A Y : ℕ) → a ≤ A → y ≤ Y → a + (if d then y else 0) ≤ A + Y
 sum_less true a y A Y h k = omega (arith, h, k)

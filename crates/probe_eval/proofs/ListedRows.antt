@@ -7,6 +7,7 @@ use Rattle.std.proofs.lemmas.Bool.{cases_Bool, and_parts, false≢true, eqb-true
 use Rattle.tap_rows.specs.Kept.{In}
 use Rattle.tap_rows.specs.declared.tables.Tables.{Tables}
 use Rattle.tap_rows.specs.declared.results.Entry.{Entry}
+use Rattle.tap_rows.proofs.Tests.{and_end}
 use Rattle.tql_tree.specs.declared.table.Table.{Table}
 use Rattle.tql_tree.specs.declared.table.Table.TheVariants.{Docs, Notes}
 use Rattle.tql_core.specs.declared.term.Var.{Var}
@@ -16,12 +17,12 @@ use Rattle.tql_core.specs.Exact.{atom_is}
 use Rattle.tql_core.specs.Holds.{truth}
 use Rattle.tql_core.specs.Row.{Row, OfDoc, OfNote, arrival}
 use Rattle.tql_core.specs.Values.{Env, bind, lookup, value, true_atom}
+use Rattle.tql_core.proofs.Bound.{bind_same}
 use Rattle.time_marks.specs.declared.mark.Step.{Step}
 use Rattle.time_marks.specs.declared.seek.Seek.{Seek}
 use Rattle.time_marks.specs.declared.seek.Seek.TheVariants.{Arrived, ArrivedDay}
 use Rattle.time_marks.specs.declared.window.Window.{Window}
 use Rattle.time_marks.specs.Probes.{Probe, come_by}
-use Rattle.time_marks.proofs.Envs.{bind_same}
 use Rattle.access_plan.specs.Accesses.{is_held}
 use Rattle.access_plan.specs.Nearest.{nearest}
 use Rattle.access_plan.specs.declared.reach.Reach.{Reach}
@@ -40,10 +41,6 @@ use Rattle.probe_eval.proofs.OpenLaws.{held_same}
 or_true : (b : Bool) → (b || true) ≡ true
 or_true true = refl
 or_true false = refl
-
-and_true : (b : Bool) → (b && true) ≡ b
-and_true true = refl
-and_true false = refl
 
 docs_is : (t : Table) → is_docs t ≡ true → t ≡ Docs
 docs_is Docs h = refl
@@ -89,8 +86,8 @@ none_left step env h = rw h refl
 
 rest_is : (T : Tables) (path : List Step) (b : ℤ) (order : List Reach) (env : Env) → nearest path env ≡ None
     → rest_of T path b order env ≡ may_go path b env
-rest_is T path b [] env n = ap (λ o. may_go path b env && all_or o (λ r. false)) n ∙ and_true (may_go path b env)
-rest_is T path b (x ∷ xs) env n = rw n (and_true (may_go path b env))
+rest_is T path b [] env n = ap (λ o. may_go path b env && all_or o (λ r. false)) n ∙ and_end (may_go path b env)
+rest_is T path b (x ∷ xs) env n = rw n (and_end (may_go path b env))
 
 -- the parts of such a probe
 abbrev Parts : Probe → Var → Type 0
@@ -127,7 +124,7 @@ module _ (T : Tables) (w : Window) (p : Probe) (seek : Seek) (v : Var) (step : S
   may_go_is row t b =
       let o : path_open p.path (bind v row []) ≡ true = ap (λ x. path_open x (bind v row [])) path
       ∙ open_one (bind v row []) a t step guards in
-      ap (λ c. come_by b (bind v row []) && c) o ∙ and_true (come_by b (bind v row [])) ∙ and_true (int_le (arrival row) b)
+      ap (λ c. come_by b (bind v row []) && c) o ∙ and_end (come_by b (bind v row [])) ∙ and_end (int_le (arrival row) b)
 
   holds_is : (row : Row) → In row (walked T w p seek v) → (b : ℤ) (order : List Reach)
       → holds_here T p b order (bind v row []) ≡ int_le (arrival row) b
@@ -137,7 +134,7 @@ module _ (T : Tables) (w : Window) (p : Probe) (seek : Seek) (v : Var) (step : S
       let n : nearest p.path (bind v row []) ≡ None = ap (λ x. nearest x (bind v row [])) path ∙ none_left step (bind v row []) h in
       ap (λ c. c && truth T (pos 0) p.body (bind v row [])) (rest_is T p.path b order (bind v row []) n ∙ may_go_is row t b)
       ∙ ap (λ c. int_le (arrival row) b && c) (implied_true (bind v row []) a t T p.body body)
-      ∙ and_true (int_le (arrival row) b)
+      ∙ and_end (int_le (arrival row) b)
 
 -- such a probe finds each row that is walked, at each mark that isn't before it
 list_holds : (T : Tables) (w : Window) (p : Probe) (seek : Seek) (v : Var) → goes_by_list p seek v ≡ true

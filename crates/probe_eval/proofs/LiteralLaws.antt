@@ -1,7 +1,7 @@
 -- The documents that a posting list has under a guard's literal are those of which the guard is true.
 use Rattle.std.proofs.Common.{◌≡◌, ◌∙◌, ℕ, ℤ, pos, Bool, true, false, List, [], ◌∷◌, Option, Some, None, refl, sym, ap, inl, inr, arith}
 use Rattle.std.proofs.Common.{map}
-use Rattle.std.specs.Prelude.{◌⊎◌, ◌&&◌, ◌||◌, ◌≤ℤ◌, ◌<ℤ◌, int_le, int_lt, filter, fold, is_some, nat_eq, nat_lt, option_to_list}
+use Rattle.std.specs.Prelude.{◌⊎◌, ◌&&◌, ◌≤ℤ◌, ◌<ℤ◌, int_le, int_lt, filter, fold, is_some, nat_eq, nat_lt, option_to_list}
 use Rattle.std.specs.List.{list_any}
 use Rattle.std.specs.Str.{bytes_eq}
 use Rattle.std.proofs.lemmas.Bool.{cases_Bool, and_from}
@@ -12,6 +12,7 @@ use Rattle.tap_base.specs.declared.numbers.Op.TheVariants.{Eq}
 use Rattle.tap_rows.specs.declared.rows.Doc.{Doc}
 use Rattle.tap_rows.specs.declared.tables.Tables.{Tables}
 use Rattle.tap_rows.specs.Kept.{In, Each}
+use Rattle.tap_rows.proofs.Tests.{or_end, some_same}
 use Rattle.tql_tree.specs.declared.table.Table.{Table}
 use Rattle.tql_tree.specs.declared.table.Table.TheVariants.{Docs}
 use Rattle.tql_core.specs.declared.term.Var.{Var}
@@ -34,13 +35,6 @@ use Rattle.probe_eval.proofs.AccessLists.{picked, doc_asked, of_docs_texts, entr
 use Rattle.probe_eval.proofs.Costs.{filter_same, filter_both}
 use Rattle.tap_base.specs.Numbers.{IsMoment}
 
-some_same : {A : Type 0} {x y : A} → Some x ≡ Some y → x ≡ y
-some_same e = cc
-
-or_false : (b : Bool) → (b || false) ≡ b
-or_false true = refl
-or_false false = refl
-
 -- a kind is given of a field of the variable alone
 pub kind_parts : (v u : Var) (o : Option TextKind) (kind : TextKind) → kind_if v u o ≡ Some kind → (nat_eq u.0 v.0 ≡ true) × (o ≡ Some kind)
 kind_parts v u o kind h = elim (cases_Bool (nat_eq u.0 v.0)) [
@@ -51,7 +45,7 @@ kind_parts v u o kind h = elim (cases_Bool (nat_eq u.0 v.0)) [
 -- a text that may be absent, with the literal on the left
 turned_asked : (o : Option (List ℕ)) (t : List ℕ) → list_any (λ other. bytes_eq t other) (option_to_list o) ≡ both_texts Eq (Some t) o
 turned_asked None t = refl
-turned_asked (Some x) t = or_false (bytes_eq t x) ∙ sym (is_eq-slice_cmp t x)
+turned_asked (Some x) t = or_end (bytes_eq t x) ∙ sym (is_eq-slice_cmp t x)
 
 -- a document has the literal if and only if the guard is true of it
 same_truth : (v : Var) (a : Atom) (kind : TextKind) → literal_kind v a ≡ Some kind → (d : Doc)

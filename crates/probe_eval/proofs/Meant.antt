@@ -11,13 +11,11 @@ use Rattle.tap_rows.specs.Results.{hit_of}
 use Rattle.time_marks.specs.declared.window.Window.{Window}
 use Rattle.time_marks.specs.Probes.{Probe, found, least, meaning_without}
 use Rattle.tap_rows.proofs.SecondsLaws.{least_second-within}
+use Rattle.tap_rows.proofs.Tests.{some_same}
 use Rattle.probe_eval.specs.Found.{IsFound}
 use Rattle.probe_eval.proofs.Members.{in_filter, to_filter}
 use Rattle.probe_eval.proofs.Ordered.{ordered_in, in_ordered}
 use Rattle.probe_eval.proofs.LeastSeconds.{least_none, least_passes, least_least}
-
-some_same : {A : Type 0} {x y : A} → Some x ≡ Some y → x ≡ y
-some_same e = cc
 
 -- what filter_map keeps
 module _ {A B : Type 0} where

@@ -3,7 +3,7 @@ use Rattle.std.proofs.Common.{◌≡◌, ℕ, ◌≤◌, suc, Bool, true, false,
 use Rattle.std.proofs.Common.{inl, inr, arith, nat_eq}
 use Rattle.std.specs.Prelude.{◌⊎◌, filter, option_to_list, if◌then◌else◌}
 use Rattle.std.specs.List.{flat_map}
-use Rattle.std.proofs.lemmas.Bool.{cases_Bool}
+use Rattle.std.proofs.lemmas.Bool.{cases_Bool, eqb-true, eqb-false}
 use Rattle.tap_rows.specs.Kept.{In}
 use Rattle.time_marks.specs.Found.{Distinct}
 use Rattle.time_marks.proofs.Lists.{in_left, in_right, append_in}
@@ -61,12 +61,6 @@ abbrev without : ℕ → List ℕ → List ℕ
 without x [] = []
 without x (y ∷ ys) = if nat_eq x y then ys else y ∷ without x ys
 
-nat_is : (n m : ℕ) → nat_eq n m ≡ true → n ≡ m
-nat_is n m h = grind arith
-
-nat_not : (n m : ℕ) → nat_eq n m ≡ false → n ≡ m → ⊥
-nat_not n m h e = grind arith
-
 without_length : (x : ℕ) (ys : List ℕ) → In x ys → length ys ≡ suc (length (without x ys))
 without_length x [] i = absurd i
 without_length x (y ∷ ys) i =
@@ -76,14 +70,14 @@ without_length x (y ∷ ys) i =
     ]
   where
     tail : nat_eq x y ≡ false → (x ≡ y) ⊎ In x ys → In x ys
-    tail e (inl q) = absurd (nat_not x y e q)
+    tail e (inl q) = absurd (eqb-false x y e q)
     tail e (inr j) = j
 
 in_without : (x k : ℕ) (ys : List ℕ) → In k ys → (k ≡ x → ⊥) → In k (without x ys)
 in_without x k [] i n = i
 in_without x k (y ∷ ys) i n =
     elim (cases_Bool (nat_eq x y)) [
-      | inl e ↦ rw e (rest (nat_is x y e) i)
+      | inl e ↦ rw e (rest (eqb-true x y e) i)
       | inr e ↦ rw e (other i (λ j. in_without x k ys j n))
     ]
   where

@@ -2,7 +2,7 @@
 use Rattle.std.proofs.Common.{◌≡◌, ◌∙◌, ℕ, suc, ◌≤◌, ◌<◌, ℤ, pos, Bool, true, false, Option, Some, None, List, [], ◌∷◌, length, refl, sym}
 use Rattle.std.proofs.Common.{ap, subst, inl, inr, arith, nat_eq, map, if◌then◌else◌}
 use Rattle.std.specs.Prelude.{◌⊎◌, int_le, option_to_list}
-use Rattle.std.proofs.lemmas.Bool.{cases_Bool, and_parts, and_from, false≢true}
+use Rattle.std.proofs.lemmas.Bool.{cases_Bool, and_parts, and_from, false≢true, eqb-true, eq-eqb}
 use Rattle.tap_rows.specs.declared.rows.Doc.{Doc}
 use Rattle.tap_rows.specs.declared.tables.Tables.{Tables}
 use Rattle.tap_rows.specs.declared.results.Hit.{Hit}
@@ -13,6 +13,7 @@ use Rattle.tql_core.specs.declared.term.Base.TheVariants as B
 use Rattle.tql_core.specs.Row.{Row, OfDoc, OfNote, arrival, rows_of}
 use Rattle.tql_core.specs.Scope.{BaseIn}
 use Rattle.tap_rows.specs.Kept.{In}
+use Rattle.tap_rows.proofs.Tests.{some_same}
 use Rattle.tql_core.specs.Values.{Env, bind, lookup, value}
 use Rattle.tql_core.specs.Holds.{truth}
 use Rattle.time_marks.specs.declared.mark.Step.{Step}
@@ -40,15 +41,6 @@ use Rattle.probe_eval.proofs.OpenLaws.{held_more, row_held, not_held, same_bound
 use Rattle.probe_eval.proofs.RestLaws.{walked_row, in_tables, kept_on, next_row, fewer_left, some_left, may_go_on, rest_sound}
 use Rattle.probe_eval.proofs.RestLaws.{rest_complete}
 use Rattle.probe_eval.proofs.HitSteps.{doc_hits, next_hits}
-
-some_same : {A : Type 0} {x y : A} → Some x ≡ Some y → x ≡ y
-some_same e = cc
-
-nat_is : (n m : ℕ) → nat_eq n m ≡ true → n ≡ m
-nat_is n m h = grind arith
-
-is_nat : (n m : ℕ) → n ≡ m → nat_eq n m ≡ true
-is_nat n m h = grind arith
 
 -- an unseen document that the probe finds with the mark, in the window
 pub record IsFoundBy (entries : List Entry) (p : Probe) (T : Tables) (w : Window) (h : Hit) : Type 0 where
@@ -152,7 +144,7 @@ module _ (entries : List Entry) (T : Tables) (p : Probe) (b : ℤ) (k : IsProbe 
               → (nat_eq step.var.0 0 ≡ true) ⊎ (nat_eq step.var.0 0 ≡ false) → In r (choices T d step)
           chosen r i l (inl e) =
               let s : r ≡ OfDoc d =
-              some_same (sym l ∙ ap (λ z. lookup z x.final) (nat_is step.var.0 0 e) ∙ x.same 0 (row_held env 0 (OfDoc d) q) ∙ q) in
+              some_same (sym l ∙ ap (λ z. lookup z x.final) (eqb-true step.var.0 0 e) ∙ x.same 0 (row_held env 0 (OfDoc d) q) ∙ q) in
               rw e (inl s)
           chosen r i l (inr e) = rw e i
 
@@ -220,7 +212,7 @@ module _ (entries : List Entry) (T : Tables) (p : Probe) (b : ℤ) (k : IsProbe 
     asked_row =
         let s = map_in (λ (s : Step). s.var.0) p.path 0 (asked_in p k) in
         let x = f.rows s.0 s.1 in
-        ap (λ z. lookup z f.env) s.2 ∙ x.2 ∙ ap Some (only x.0 (OfDoc d) (rw (is_nat s.0.var.0 0 (sym s.2)) at x.1))
+        ap (λ z. lookup z f.env) s.2 ∙ x.2 ∙ ap Some (only x.0 (OfDoc d) (rw (eq-eqb s.0.var.0 0 (sym s.2)) at x.1))
 
     -- the rows of the steps
     pub found_rows : (step : Step) → In step p.path
@@ -231,7 +223,7 @@ module _ (entries : List Entry) (T : Tables) (p : Probe) (b : ℤ) (k : IsProbe 
             → In r (rows_of step.table T)
         within r c (inl e) =
             let q = only r (OfDoc d) (rw e at c) in
-            let z = nat_is step.var.0 0 e in
+            let z = eqb-true step.var.0 0 e in
             let t : step.table ≡ Docs = sym (table_is p.path step k.once i) ∙ ap (table_in p.path) z ∙ asked_table p k in
             subst (λ y. In r (rows_of y T)) (sym t) (subst (λ y. In y (map OfDoc T.docs)) (sym q) (in_map OfDoc T.docs d is_row))
         within r c (inr e) = rw e at c

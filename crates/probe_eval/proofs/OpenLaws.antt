@@ -17,9 +17,9 @@ use Rattle.tql_core.specs.Scope.{BaseIn, NumIn, TextIn, AtomIn}
 use Rattle.tap_rows.specs.Kept.{In}
 use Rattle.tql_core.specs.Values.{Env, bind, lookup, on_row, round_up_to_day, day_of, base_value, plus_to, value, field, number, text_field}
 use Rattle.tql_core.specs.Values.{text, true_atom}
+use Rattle.tql_core.proofs.Bound.{bind_same, bind_other}
 use Rattle.time_marks.specs.declared.mark.Step.{Step}
 use Rattle.time_marks.proofs.Lists.{all_in}
-use Rattle.time_marks.proofs.Envs.{bind_same, bind_other}
 use Rattle.time_marks.proofs.Orders.{all_from}
 use Rattle.access_plan.specs.Accesses.{is_held}
 use Rattle.access_plan.specs.Laws.{AreSame}

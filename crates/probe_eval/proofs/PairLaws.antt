@@ -8,6 +8,7 @@ use Rattle.tql_core.specs.declared.term.Var.{Var}
 use Rattle.tql_core.specs.Row.{OfDoc, rows_of}
 use Rattle.tap_rows.specs.Kept.{In}
 use Rattle.tql_core.specs.Values.{Env, bind, lookup}
+use Rattle.tql_core.proofs.Bound.{bind_same}
 use Rattle.time_marks.specs.declared.mark.Step.{Step}
 use Rattle.time_marks.specs.Marks.{document_var}
 use Rattle.time_marks.specs.Probes.{Probe, finds}
@@ -15,7 +16,7 @@ use Rattle.time_marks.specs.Seeks.{seek_of}
 use Rattle.time_marks.specs.Found.{vars_of, base_vars, IsProbe, Finds}
 use Rattle.time_marks.specs.Laws.{Same}
 use Rattle.time_marks.proofs.Lists.{in_map, map_in}
-use Rattle.time_marks.proofs.Envs.{bind_same, value_same}
+use Rattle.time_marks.proofs.Envs.{value_same}
 use Rattle.time_marks.proofs.Orders.{finds_rows, rows_find, truth_same, base_in}
 use Rattle.access_plan.specs.Accesses.{is_held}
 use Rattle.access_plan.specs.Laws.{AreSame, numbers_of}

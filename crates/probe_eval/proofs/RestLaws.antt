@@ -11,11 +11,11 @@ use Rattle.tql_core.specs.Row.{Row, arrival, rows_of}
 use Rattle.tql_core.specs.Scope.{AtomIn}
 use Rattle.tap_rows.specs.Kept.{In}
 use Rattle.tql_core.specs.Values.{Env, bind, lookup, true_atom}
+use Rattle.tql_core.proofs.Bound.{bind_same, bind_other}
 use Rattle.time_marks.specs.declared.mark.Step.{Step}
 use Rattle.time_marks.specs.Probes.{come_by}
 use Rattle.time_marks.specs.Found.{vars_of, Distinct}
 use Rattle.time_marks.proofs.Lists.{any_in, in_any, in_map, map_in}
-use Rattle.time_marks.proofs.Envs.{bind_same, bind_other}
 use Rattle.time_marks.proofs.Orders.{lookup_come}
 use Rattle.access_plan.specs.declared.reach.Reach.{Reach}
 use Rattle.access_plan.specs.Accesses.{admits, table_of, is_held}

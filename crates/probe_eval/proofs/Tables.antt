@@ -1,7 +1,7 @@
 -- The tables of a path's variables, and the rows that an access gives of them.
 use Rattle.std.proofs.Common.{◌≡◌, ℕ, ℤ, true, false, List, [], ◌∷◌, sym, ap, subst, inl, inr, arith, nat_eq}
 use Rattle.std.specs.Prelude.{◌⊎◌, int_le}
-use Rattle.std.proofs.lemmas.Bool.{cases_eq}
+use Rattle.std.proofs.lemmas.Bool.{cases_eq, eq-eqb}
 use Rattle.tql_core.specs.Row.{Row, arrival}
 use Rattle.tap_rows.specs.Kept.{In}
 use Rattle.tql_core.specs.Values.{Env}
@@ -14,14 +14,11 @@ use Rattle.access_plan.specs.Accesses.{admits}
 use Rattle.probe_eval.specs.Tables.{table_in}
 use Rattle.probe_eval.specs.Work.{admits_by}
 
-is_nat : (n m : ℕ) → n ≡ m → nat_eq n m ≡ true
-is_nat n m h = grind arith
-
 -- of distinct variables, the table in which a variable is found is that of its step
 pub table_is : (path : List Step) (step : Step) → Distinct (vars_of path) → In step path → table_in path step.var.0 ≡ step.table
 table_is [] step u i = absurd i
 table_is (x ∷ xs) step u (inl e) =
-    let q : nat_eq x.var.0 step.var.0 ≡ true = is_nat x.var.0 step.var.0 (ap (λ (z : Step). z.var.0) (sym e)) in
+    let q : nat_eq x.var.0 step.var.0 ≡ true = eq-eqb x.var.0 step.var.0 (ap (λ (z : Step). z.var.0) (sym e)) in
     rw q (ap (λ (z : Step). z.table) (sym e))
 table_is (x ∷ xs) step u (inr i) = go (cases_eq x.var.0 step.var.0) (table_is xs step u.1 i)
   where

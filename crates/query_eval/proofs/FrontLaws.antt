@@ -15,7 +15,7 @@ use Rattle.tap_rows.proofs.LaterLaws.{each-map}
 use Rattle.tql_core.specs.declared.term.Var.{Var}
 use Rattle.tql_core.specs.Row.{Row, OfDoc}
 use Rattle.tql_core.specs.Values.{Env, bind, lookup}
-use Rattle.time_marks.proofs.Envs.{bind_same}
+use Rattle.tql_core.proofs.Bound.{bind_same}
 use Rattle.access_plan.specs.declared.reach.Reach.{Reach}
 use Rattle.row_index.specs.declared.text_kind.TextKind.{TextKind}
 use Rattle.row_index.specs.declared.text_kind.TextKind.TheVariants.{MsgId, Parent, Sender, Subject, Reference, To, Cc, Newsgroups, Word}

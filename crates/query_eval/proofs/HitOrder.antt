@@ -15,7 +15,7 @@ not_self x h = grind (arith, ints)
 not_both : (x y : Hit) → is_before x y ≡ true → is_before y x ≡ true → ⊥
 not_both x y h k = grind (arith, ints)
 
-onward : (x y z : Hit) → is_before x y ≡ true → is_before y z ≡ true → is_before x z ≡ true
+pub onward : (x y z : Hit) → is_before x y ≡ true → is_before y z ≡ true → is_before x z ≡ true
 onward x y z h k = grind (arith, ints)
 
 otherwise : (a b : Hit) → is_before a b ≡ false → (b.doc.0 ≡ a.doc.0 → ⊥) → is_before b a ≡ true

@@ -1,39 +1,27 @@
 -- One hit a document, with its least second.
-use Rattle.std.proofs.Common.{◌≡◌, ℕ, ℤ, true, false, List, [], ◌∷◌, refl, sym, ap, ◌∙◌, subst, inl, inr, arith, nat_eq}
+use Rattle.std.proofs.Common.{◌≡◌, true, List, [], ◌∷◌, refl, sym, ap, ◌∙◌, subst, inl, inr, nat_eq}
 use Rattle.std.specs.Prelude.{◌⊎◌, int_le}
-use Rattle.std.proofs.lemmas.Int.{ints}
-use Rattle.std.proofs.lemmas.Bool.{cases_Bool}
+use Rattle.std.proofs.lemmas.Bool.{cases_Bool, eqb-true, eqb-false}
 use Rattle.tap_rows.specs.declared.results.Hit.{Hit}
 use Rattle.tap_rows.specs.Kept.{In}
+use Rattle.tap_rows.proofs.Tests.{le_itself, le_after, le_other}
 use Rattle.query_eval.specs.Lowest.{lower, with_lowered, lowest}
 use Rattle.query_eval.specs.HitLists.{HitsAreApart, AreLowest}
-
-nat_is : (n m : ℕ) → nat_eq n m ≡ true → n ≡ m
-nat_is n m h = grind arith
-
-nat_not : (n m : ℕ) → nat_eq n m ≡ false → n ≡ m → ⊥
-nat_not n m h e = grind arith
-
-le_self : (x : ℤ) → int_le x x ≡ true
-le_self x = grind (arith, ints)
-
-le_trans : (x y z : ℤ) → int_le x y ≡ true → int_le y z ≡ true → int_le x z ≡ true
-le_trans x y z h k = grind (arith, ints)
-
-le_other : (x y : ℤ) → int_le x y ≡ false → int_le y x ≡ true
-le_other x y h = grind (arith, ints)
 
 lower_is : (x h : Hit) → (lower x h ≡ x) ⊎ (lower x h ≡ h)
 lower_is x h = elim (cases_Bool (int_le x.first h.first)) [ inl e ↦ inl (rw e refl) | inr e ↦ inr (rw e refl) ]
 
-lower_doc : (x h : Hit) → x.doc.0 ≡ h.doc.0 → (lower x h).doc.0 ≡ x.doc.0
+pub lower_doc : (x h : Hit) → x.doc.0 ≡ h.doc.0 → (lower x h).doc.0 ≡ x.doc.0
 lower_doc x h d = elim (lower_is x h) [ inl e ↦ ap (λ (z : Hit). z.doc.0) e | inr e ↦ ap (λ (z : Hit). z.doc.0) e ∙ sym d ]
 
-lower_first : (x h : Hit) → int_le (lower x h).first x.first ≡ true
-lower_first x h = elim (cases_Bool (int_le x.first h.first)) [ inl e ↦ rw e (le_self x.first) | inr e ↦ rw e (le_other x.first h.first e) ]
+pub lower_first : (x h : Hit) → int_le (lower x h).first x.first ≡ true
+lower_first x h = elim (cases_Bool (int_le x.first h.first)) [
+  | inl e ↦ rw e (le_itself x.first)
+  | inr e ↦ rw e (le_other x.first h.first e)
+]
 
-lower_other : (x h : Hit) → int_le (lower x h).first h.first ≡ true
-lower_other x h = elim (cases_Bool (int_le x.first h.first)) [ inl e ↦ rw e e | inr e ↦ rw e (le_self h.first) ]
+pub lower_other : (x h : Hit) → int_le (lower x h).first h.first ≡ true
+lower_other x h = elim (cases_Bool (int_le x.first h.first)) [ inl e ↦ rw e e | inr e ↦ rw e (le_itself h.first) ]
 
 -- what a hit of the lowered list is: an old one or the new one, at most the new one of its document, and at most each old one of its
 -- document
@@ -44,7 +32,7 @@ pub record IsLow (xs : List Hit) (h k : Hit) : Type 0 where
 
 apart_le : (xs : List Hit) (k x : Hit) → HitsAreApart xs → In k xs → In x xs → x.doc.0 ≡ k.doc.0 → int_le k.first x.first ≡ true
 apart_le [] k x a i j d = absurd i
-apart_le (z ∷ zs) k x a (inl p) (inl q) d = subst (λ (y : Hit). int_le k.first y.first ≡ true) (p ∙ sym q) (le_self k.first)
+apart_le (z ∷ zs) k x a (inl p) (inl q) d = subst (λ (y : Hit). int_le k.first y.first ≡ true) (p ∙ sym q) (le_itself k.first)
 apart_le (z ∷ zs) k x a (inl p) (inr j) d = absurd (a.0 x j (d ∙ ap (λ (y : Hit). y.doc.0) p))
 apart_le (z ∷ zs) k x a (inr i) (inl q) d = absurd (a.0 k i (sym d ∙ ap (λ (y : Hit). y.doc.0) q))
 apart_le (z ∷ zs) k x a (inr i) (inr j) d = apart_le zs k x a.1 i j d
@@ -52,13 +40,13 @@ apart_le (z ∷ zs) k x a (inr i) (inr j) d = apart_le zs k x a.1 i j d
 pub lowered_is : (xs : List Hit) (h k : Hit) → HitsAreApart xs → In k (with_lowered xs h) → IsLow xs h k
 lowered_is [] h k a (inl e) = record {
   from = inl e;
-  new = λ d. subst (λ (z : Hit). int_le z.first h.first ≡ true) (sym e) (le_self h.first);
+  new = λ d. subst (λ (z : Hit). int_le z.first h.first ≡ true) (sym e) (le_itself h.first);
   old = λ x i d. absurd i;
 }
 lowered_is [] h k a (inr i) = absurd i
 lowered_is (x ∷ xs) h k a i = elim (cases_Bool (nat_eq x.doc.0 h.doc.0)) [
-  | inl e ↦ here (nat_is x.doc.0 h.doc.0 e) (rw e at i)
-  | inr e ↦ there (nat_not x.doc.0 h.doc.0 e) (rw e at i) (λ j. lowered_is xs h k a.1 j)
+  | inl e ↦ here (eqb-true x.doc.0 h.doc.0 e) (rw e at i)
+  | inr e ↦ there (eqb-false x.doc.0 h.doc.0 e) (rw e at i) (λ j. lowered_is xs h k a.1 j)
 ]
   where
     here : x.doc.0 ≡ h.doc.0 → (k ≡ lower x h) ⊎ In k xs → IsLow (x ∷ xs) h k
@@ -105,7 +93,7 @@ pub lowered_has : (xs : List Hit) (h x : Hit) → (x ≡ h) ⊎ In x xs → (k :
 lowered_has [] h x (inl e) = (h, inl refl, sym (ap (λ (z : Hit). z.doc.0) e))
 lowered_has [] h x (inr i) = absurd i
 lowered_has (z ∷ zs) h x i = elim (cases_Bool (nat_eq z.doc.0 h.doc.0)) [
-  | inl e ↦ rw e (here (nat_is z.doc.0 h.doc.0 e) i)
+  | inl e ↦ rw e (here (eqb-true z.doc.0 h.doc.0 e) i)
   | inr e ↦ rw e (there i (λ j. lowered_has zs h x j))
 ]
   where
@@ -126,8 +114,8 @@ lowered_has (z ∷ zs) h x i = elim (cases_Bool (nat_eq z.doc.0 h.doc.0)) [
 pub lowered_apart : (xs : List Hit) (h : Hit) → HitsAreApart xs → HitsAreApart (with_lowered xs h)
 lowered_apart [] h a = ((λ y i f. absurd i), tt)
 lowered_apart (z ∷ zs) h a = elim (cases_Bool (nat_eq z.doc.0 h.doc.0)) [
-  | inl e ↦ rw e ((λ y i f. a.0 y i (f ∙ lower_doc z h (nat_is z.doc.0 h.doc.0 e))), a.1)
-  | inr e ↦ rw e ((λ y i f. away (nat_not z.doc.0 h.doc.0 e) y f (lowered_is zs h y a.1 i).from), lowered_apart zs h a.1)
+  | inl e ↦ rw e ((λ y i f. a.0 y i (f ∙ lower_doc z h (eqb-true z.doc.0 h.doc.0 e))), a.1)
+  | inr e ↦ rw e ((λ y i f. away (eqb-false z.doc.0 h.doc.0 e) y f (lowered_is zs h y a.1 i).from), lowered_apart zs h a.1)
 ]
   where
     away : (z.doc.0 ≡ h.doc.0 → ⊥) → (y : Hit) → y.doc.0 ≡ z.doc.0 → (y ≡ h) ⊎ In y zs → ⊥
@@ -150,7 +138,7 @@ kept_one D kept h s = record {
     low k y l (inl e) f = subst (λ (z : Hit). int_le k.first z.first ≡ true) (sym e) (l.new (sym f ∙ ap (λ (z : Hit). z.doc.0) e))
     low k y l (inr d) f =
         let x = s.all y d in
-        le_trans k.first x.0.first y.first (l.old x.0 x.1 (x.2 ∙ f)) (s.least x.0 y x.1 d (sym x.2))
+        le_after k.first x.0.first y.first (l.old x.0 x.1 (x.2 ∙ f)) (s.least x.0 y x.1 d (sym x.2))
 
     has : (y : Hit) → (y ≡ h) ⊎ D y → (k : Hit) × In k (with_lowered kept h) × (k.doc.0 ≡ y.doc.0)
     has y (inl e) = lowered_has kept h y (inl e)
@@ -159,7 +147,8 @@ kept_one D kept h s = record {
         let k = lowered_has kept h x.0 (inr x.1) in
         (k.0, k.1, k.2 ∙ x.2)
 
-kept_same : (D E : Hit → Type 0) (kept : List Hit) → ((y : Hit) → D y → E y) → ((y : Hit) → E y → D y) → AreLowest D kept → AreLowest E kept
+pub kept_same : (D E : Hit → Type 0) (kept : List Hit) → ((y : Hit) → D y → E y) → ((y : Hit) → E y → D y) → AreLowest D kept
+    → AreLowest E kept
 kept_same D E kept to back s = record {
   among = λ k i. to k (s.among k i);
   least = λ k y i d f. s.least k y i (back y d) f;

@@ -1,7 +1,7 @@
 -- The least hits of a run are the meaning of its query.
 use Rattle.std.proofs.Common.{◌≡◌, ℕ, suc, ◌+◌, ◌≤◌, ℤ, pos, Bool, true, not, List, [], ◌∷◌, Option, Some, None, refl, sym, ap, ◌∙◌, subst}
 use Rattle.std.proofs.Common.{inl, inr, arith}
-use Rattle.std.specs.Prelude.{◌⊎◌, int_le, ◌≤ℤ◌}
+use Rattle.std.specs.Prelude.{◌⊎◌, ◌≤ℤ◌}
 use Rattle.std.specs.List.{filter, filter_map}
 use Rattle.std.proofs.lemmas.Int.{ints}
 use Rattle.std.proofs.lemmas.Bool.{cases_Bool}
@@ -12,12 +12,13 @@ use Rattle.tap_rows.specs.declared.results.Hit.{Hit}
 use Rattle.tap_rows.specs.Arrivals.{Arrived}
 use Rattle.tap_rows.specs.Kept.{In}
 use Rattle.tap_rows.specs.Results.{hit_of}
+use Rattle.tap_rows.proofs.Tests.{le_from}
 use Rattle.time_marks.specs.declared.window.Window.{Window}
 use Rattle.time_marks.specs.Probes.{Probe, found, least, meaning_without}
 use Rattle.probe_eval.specs.Found.{AreFound}
 use Rattle.query_eval.specs.HitLists.{HitsAreApart, AreLowest, InOrder, HaveSame}
 use Rattle.query_eval.specs.Lowest.{lowest}
-use Rattle.query_eval.proofs.Lows.{kept_all}
+use Rattle.query_eval.proofs.Lows.{kept_all, kept_same}
 use Rattle.query_eval.specs.Laws.{LowestHitsAreTheMeaning}
 use Rattle.query_eval.proofs.HitOrder.{same_rising, rising_order}
 use Rattle.probe_eval.proofs.LeastSeconds.{least_least}
@@ -57,9 +58,6 @@ same_doc n (x ∷ xs) d e u (inr i) (inl q) h =
     let b = u.0 in
     absurd (omega (arith, k, a, b, h))
 same_doc n (x ∷ xs) d e u (inr i) (inr j) h = same_doc (n + 1) xs d e u.1 i j h
-
-le_back : (x y : ℤ) → int_le x y ≡ true → x ≤ℤ y
-le_back x y h = grind (arith, ints)
 
 antisym : (x y : ℤ) → x ≤ℤ y → y ≤ℤ x → x ≡ y
 antisym x y h k = omega (arith, ints)
@@ -102,7 +100,7 @@ module _ (seen : Doc → Bool) (X : List Probe) (T : Tables) (w : Window) (numbe
           let other : Hit = record { doc = g.doc.num; first = m.0 } in
           let o = all.complete other (found_least seen X T w other g.doc g.is_row g.unseen refl m.1) in
           let e : h.first ≡ m.0 =
-          antisym h.first m.0 (le_back h.first m.0 (kept.least h other i o (sym (ap (λ (z : DocNum). z.0) g.num)))) m.2 in
+          antisym h.first m.0 (le_from h.first m.0 (kept.least h other i o (sym (ap (λ (z : DocNum). z.0) g.num)))) m.2 in
           in_meaning seen X T w h g.doc g.is_row g.unseen g.num (m.1 ∙ ap Some (sym e))
 
       back : (h : Hit) → In h (meaning_without seen X T w) → In h zs
@@ -115,7 +113,7 @@ module _ (seen : Doc → Bool) (X : List Probe) (T : Tables) (w : Window) (numbe
           g.is_row m.1 (sym (ap (λ (z : DocNum). z.0) g.num) ∙ k.2 ∙ ap (λ (z : DocNum). z.0) m.3) in
           let at : found X T m.0 k.0.first ≡ true = subst (λ d. found X T d k.0.first ≡ true) d g.at in
           let up = least_least (found X T m.0) w.low w.high h.first k.0.first m.4 g.low at in
-          let down = le_back k.0.first h.first (kept.least k.0 h k.1 here (sym k.2)) in
+          let down = le_from k.0.first h.first (kept.least k.0 h k.1 here (sym k.2)) in
           subst (λ z. In z zs) (hit_same k.0 h (num_same k.0.doc h.doc k.2) (antisym k.0.first h.first down up)) k.1
 
 pub lowest_law : LowestHitsAreTheMeaning
@@ -134,22 +132,13 @@ lowest_moved Among kept sorted same l = record {
 none_kept : AreLowest (λ y. ⊥) []
 none_kept = record { among = λ k i. i; least = λ k y i d e. absurd i; all = λ y d. absurd d; apart = tt }
 
-lowest_same : (D E : Hit → Type 0) (kept : List Hit) → ((y : Hit) → D y → E y) → ((y : Hit) → E y → D y) → AreLowest D kept
-    → AreLowest E kept
-lowest_same D E kept to back l = record {
-  among = λ k i. to k (l.among k i);
-  least = λ k y i d e. l.least k y i (back y d) e;
-  all = λ y d. l.all y (back y d);
-  apart = l.apart;
-}
-
 -- hits that were stored and then put in order
 pub finished : (seen : Doc → Bool) (X : List Probe) (T : Tables) (w : Window) (hits kept sorted : List Hit) → HaveSame kept sorted
     → InOrder sorted → kept ≡ lowest [] hits → Arrived 1 (pos 0) T.docs → AreFound seen X T w hits → sorted ≡ meaning_without seen X T w
 finished seen X T w hits kept sorted same order k arrived found =
     let all = kept_all (λ y. ⊥) [] hits none_kept in
     let l : AreLowest (λ y. In y hits) (lowest [] hits) =
-    lowest_same (λ y. ⊥ ⊎ In y hits) (λ y. In y hits) (lowest [] hits) (λ y d. right y d) (λ y i. inr i) all in
+    kept_same (λ y. ⊥ ⊎ In y hits) (λ y. In y hits) (lowest [] hits) (λ y d. right y d) (λ y i. inr i) all in
     lowest_law seen X T w hits sorted arrived found
     (lowest_moved (λ y. In y hits) kept sorted same (subst (λ z. AreLowest (λ y. In y hits) z) (sym k) l)) order
   where

@@ -1,30 +1,17 @@
 -- Hits with the places of their documents among them, with one hit more.
 use Rattle.std.proofs.Common.{◌≡◌, ℕ, zero, suc, ◌+◌, ◌-◌, ◌<◌, ◌≤◌, true, false, List, [], ◌∷◌, ◌++◌, Option, Some, None, length, map}
 use Rattle.std.proofs.Common.{refl, sym, ap, ◌∙◌, subst, inl, inr, arith, nat_eq}
-use Rattle.std.specs.Prelude.{◌⊎◌, int_le, slice_get, slice_set, slice_index_or}
+use Rattle.std.specs.Prelude.{◌⊎◌, slice_get, slice_set, slice_index_or}
 use Rattle.std.specs.List.{list_any, IsDistinct, AllByRecursion}
-use Rattle.std.proofs.lemmas.Bool.{cases_Bool, true≢false, both_ways}
+use Rattle.std.proofs.lemmas.Bool.{cases_Bool, true≢false, both_ways, eqb-true, eq-eqb, ne_eqb}
 use Rattle.std.proofs.lemmas.Map.Steps.{length-le_from_distinct_below}
 use Rattle.tap_rows.specs.declared.results.Hit.{Hit}
 use Rattle.tap_rows.specs.Kept.{In}
+use Rattle.tap_rows.proofs.Tests.{some_same, none_some}
 use Rattle.query_eval.specs.HitLists.{HitsAreApart}
 use Rattle.query_eval.specs.Lowest.{lower, with_lowered}
 use Rattle.query_eval.specs.Placed.{IsPlaced, has_hit_at, is_of}
-
-some_same : {A : Type 0} {x y : A} → Some x ≡ Some y → x ≡ y
-some_same e = cc
-
-none_some : {A : Type 0} {x : A} → None ≡ Some x → ⊥
-none_some e = cc
-
-nat_is : (n m : ℕ) → nat_eq n m ≡ true → n ≡ m
-nat_is n m h = grind (arith, h)
-
-nat_yes : (n m : ℕ) → n ≡ m → nat_eq n m ≡ true
-nat_yes n m h = grind (arith, h)
-
-nat_no : (n m : ℕ) → (n ≡ m → ⊥) → nat_eq n m ≡ false
-nat_no n m h = grind (arith, h)
+use Rattle.query_eval.proofs.Lows.{lower_doc}
 
 module _ {A : Type 0} where
   get_below : (xs : List A) (k : ℕ) (x : A) → slice_get xs k ≡ Some x → k < length xs
@@ -73,7 +60,7 @@ lowered_absent : (hs : List Hit) (h : Hit) → ((k : ℕ) (x : Hit) → slice_ge
     → with_lowered hs h ≡ hs ++ h ∷ []
 lowered_absent [] h n = refl
 lowered_absent (x ∷ hs) h n =
-    let e = nat_no x.doc.0 h.doc.0 (n 0 x refl) in
+    let e = ne_eqb x.doc.0 h.doc.0 (n 0 x refl) in
     rw e (ap (λ z. x ∷ z) (lowered_absent hs h (λ k y g. n (suc k) y g)))
 
 lowered_present : (hs : List Hit) (k : ℕ) (x h : Hit) → slice_get hs k ≡ Some x → x.doc.0 ≡ h.doc.0
@@ -81,10 +68,10 @@ lowered_present : (hs : List Hit) (k : ℕ) (x h : Hit) → slice_get hs k ≡ S
 lowered_present [] k x h g d n = absurd (none_some g)
 lowered_present (z ∷ hs) zero x h g d n =
     let q : z ≡ x = some_same g in
-    let e = nat_yes z.doc.0 h.doc.0 (ap (λ (y : Hit). y.doc.0) q ∙ d) in
+    let e = eq-eqb z.doc.0 h.doc.0 (ap (λ (y : Hit). y.doc.0) q ∙ d) in
     rw e (ap (λ y. lower y h ∷ hs) q)
 lowered_present (z ∷ hs) (suc k) x h g d n =
-    let e = nat_no z.doc.0 h.doc.0 (n 0 z (omega arith) refl) in
+    let e = ne_eqb z.doc.0 h.doc.0 (n 0 z (omega arith) refl) in
     rw e (ap (λ y. z ∷ y) (lowered_present hs k x h g d (λ j y w i. n (suc j) y (omega (arith, w)) i)))
 
 abbrev NoneOf : List Hit → ℕ → Type 0
@@ -103,14 +90,14 @@ module _ (hs : List Hit) (ps : List ℕ) (placed : IsPlaced hs ps) (doc place : 
   pub none_of : has_hit_at hs place doc ≡ false → NoneOf hs doc
   none_of h k x g e =
       let q : slice_get hs place ≡ Some x = ap (λ n. slice_get hs n) (at_place k x g e) ∙ g in
-      both_ways (has_hit_at hs place doc) h (ap (λ o. is_of doc o) q ∙ nat_yes x.doc.0 doc e)
+      both_ways (has_hit_at hs place doc) h (ap (λ o. is_of doc o) q ∙ eq-eqb x.doc.0 doc e)
 
   pub there : has_hit_at hs place doc ≡ true → (x : Hit) × (slice_get hs place ≡ Some x) × (x.doc.0 ≡ doc)
   there h = go (slice_get hs place) refl
     where
       go : (o : Option Hit) → slice_get hs place ≡ o → (x : Hit) × (slice_get hs place ≡ Some x) × (x.doc.0 ≡ doc)
       go None e = absurd (both_ways (has_hit_at hs place doc) (ap (λ o. is_of doc o) e) h)
-      go (Some x) e = (x, e, nat_is x.doc.0 doc (sym (ap (λ o. is_of doc o) e) ∙ h))
+      go (Some x) e = (x, e, eqb-true x.doc.0 doc (sym (ap (λ o. is_of doc o) e) ∙ h))
 
   none_before : (j : ℕ) (y : Hit) → j < place → slice_get hs j ≡ Some y → y.doc.0 ≡ doc → ⊥
   none_before j y w g e = less_not j place w (at_place j y g e)
@@ -122,13 +109,6 @@ kept_lower hs ps h place d p k t =
     let x = there hs ps p h.doc.0 place k t in
     lowered_present hs place x.0 h x.1 x.2 (none_before hs ps p h.doc.0 place k)
     ∙ ap (λ y. slice_set hs place (lower y h)) (sym (get_or_is hs place x.0 d x.1))
-
-lower_doc : (x h : Hit) → x.doc.0 ≡ h.doc.0 → (lower x h).doc.0 ≡ x.doc.0
-lower_doc x h e =
-    elim (cases_Bool (int_le x.first h.first)) [
-      | inl b ↦ rw b refl
-      | inr b ↦ rw b (sym e)
-    ]
 
 pub placed_lower : (hs : List Hit) (ps : List ℕ) (h : Hit) (place : ℕ) (d : Hit) → IsPlaced hs ps → slice_get ps (h.doc.0 - 1) ≡ Some place
     → has_hit_at hs place h.doc.0 ≡ true → IsPlaced (slice_set hs place (lower (slice_index_or hs place d) h)) ps
@@ -145,7 +125,7 @@ placed_lower hs ps h place d p k t = λ j y g. go j y g (there hs ps p h.doc.0 p
         let o : slice_index_or hs place d ≡ x.0 = get_or_is hs place x.0 d x.1 in
         elim (cases_Bool (nat_eq place j)) [
           | inl b ↦
-              let e : place ≡ j = nat_is place j b in
+              let e : place ≡ j = eqb-true place j b in
               let s : slice_get (slice_set hs place (lower (slice_index_or hs place d) h)) place
               ≡ Some (lower (slice_index_or hs place d) h) = set_same hs place _ (get_below hs place x.0 x.1) in
               let q : y ≡ lower x.0 h =
@@ -153,7 +133,7 @@ placed_lower hs ps h place d p k t = λ j y g. go j y g (there hs ps p h.doc.0 p
               ∙ ap (λ z. lower z h) o in
               moved j x.0 y (ap (λ n. slice_get hs n) (sym e) ∙ x.1) (ap (λ (z : Hit). z.doc.0) q ∙ lower_doc x.0 h x.2)
           | inr b ↦
-              let n : place ≡ j → ⊥ = λ e. both_ways (nat_eq place j) b (nat_yes place j e) in
+              let n : place ≡ j → ⊥ = λ e. both_ways (nat_eq place j) b (eq-eqb place j e) in
               p j y (sym (set_other hs place j (lower (slice_index_or hs place d) h) n) ∙ g)
         ]
 
@@ -204,7 +184,7 @@ further n k e = omega (arith, e)
 key_apart : (key : ℕ) (zs : List Hit) → ((k : ℕ) (y : Hit) → slice_get zs k ≡ Some y → key ≡ y.doc.0 - 1 → ⊥)
     → AllByRecursion (λ y. nat_eq key y ≡ false) (keys zs)
 key_apart key [] n = tt
-key_apart key (z ∷ zs) n = (nat_no key (z.doc.0 - 1) (n 0 z refl), key_apart key zs (λ k y g. n (suc k) y g))
+key_apart key (z ∷ zs) n = (ne_eqb key (z.doc.0 - 1) (n 0 z refl), key_apart key zs (λ k y g. n (suc k) y g))
 
 head_apart : (n k : ℕ) (x y : Hit) (ps : List ℕ) → slice_get ps (x.doc.0 - 1) ≡ Some (n + 0) → slice_get ps (y.doc.0 - 1) ≡ Some (n + suc k)
     → x.doc.0 - 1 ≡ y.doc.0 - 1 → ⊥
@@ -224,7 +204,7 @@ keys_below : (n : ℕ) (hs : List Hit) → ((k : ℕ) (x : Hit) → slice_get hs
 keys_below n [] f q h = absurd (true≢false (sym h))
 keys_below n (x ∷ hs) f q h =
     elim (cases_Bool (nat_eq q (x.doc.0 - 1))) [
-      | inl b ↦ subst (λ z. z < n) (sym (nat_is q (x.doc.0 - 1) b)) (f 0 x refl)
+      | inl b ↦ subst (λ z. z < n) (sym (eqb-true q (x.doc.0 - 1) b)) (f 0 x refl)
       | inr b ↦ keys_below n hs (λ k y g. f (suc k) y g) q (rw b at h)
     ]
 

@@ -14,6 +14,7 @@ use Rattle.tap_rows.specs.declared.results.Hit.{Hit}
 use Rattle.tap_rows.specs.Kept.{In}
 use Rattle.tap_rows.specs.Results.{is_before}
 use Rattle.query_eval.specs.HitLists.{HitsAreApart, InOrder, HaveSame}
+use Rattle.query_eval.proofs.HitOrder.{onward}
 
 -- the order
 
@@ -112,9 +113,6 @@ same_hits xs ys p a = record {
 
 strictly : (a b : Hit) → is_before b a ≡ false → (b.doc.0 ≡ a.doc.0 → ⊥) → is_before a b ≡ true
 strictly a b h n = grind (arith, ints)
-
-onward : (x y z : Hit) → is_before x y ≡ true → is_before y z ≡ true → is_before x z ≡ true
-onward x y z h k = grind (arith, ints)
 
 in_order_all : (xs : List Hit) → HitsAreApart xs
     → ((k : ℕ) (d : Hit) → 0 ≤ k → k + 1 < length xs → is_before (slice_index_or xs (k + 1) d) (slice_index_or xs k d) ≡ false) → InOrder xs

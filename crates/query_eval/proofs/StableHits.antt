@@ -3,44 +3,18 @@ use Rattle.std.proofs.Common.{◌≡◌, ℕ, ℤ, Bool, true, false, Option, So
 use Rattle.std.proofs.Common.{nat_eq}
 use Rattle.std.specs.Prelude.{◌≤ℤ◌, int_le, option_to_list}
 use Rattle.std.proofs.lemmas.Int.{ints}
-use Rattle.std.proofs.lemmas.Bool.{cases_Bool}
+use Rattle.std.proofs.lemmas.Bool.{cases_Bool, eqb-true}
 use Rattle.tap_base.specs.declared.numbers.DocNum.{DocNum}
 use Rattle.tap_rows.specs.declared.rows.Doc.{Doc}
 use Rattle.tap_rows.specs.declared.results.Hit.{Hit}
 use Rattle.tap_rows.specs.declared.results.Entry.{Entry}
+use Rattle.tap_rows.proofs.Tests.{le_itself, le_after, le_yes}
 use Rattle.little_box.specs.Boxes.{is_in}
 use Rattle.probe_eval.specs.Nested.{hit_if, new_doc}
 use Rattle.query_eval.specs.Lowest.{lower, with_lowered, has_place, with_hit, keeping}
 use Rattle.query_eval.specs.Fronts.{IsDone}
 use Rattle.query_eval.proofs.HitSteps.{left_out}
-
-doc_is : (n m : ℕ) → nat_eq n m ≡ true → n ≡ m
-doc_is n m h = grind arith
-
-pub self_le : (x : ℤ) → int_le x x ≡ true
-self_le x = grind (arith, ints)
-
-other_le : (x y : ℤ) → int_le x y ≡ false → int_le y x ≡ true
-other_le x y h = grind (arith, ints)
-
-pub le_after : (x y z : ℤ) → int_le x y ≡ true → int_le y z ≡ true → int_le x z ≡ true
-le_after x y z h k = grind (arith, ints)
-
-le_is : (x y : ℤ) → x ≤ℤ y → int_le x y ≡ true
-le_is x y h = grind (arith, ints)
-
--- lowering a hit keeps its document, and makes it no later
-pub lower_doc : (x g : Hit) → x.doc.0 ≡ g.doc.0 → (lower x g).doc.0 ≡ x.doc.0
-lower_doc x g d = elim (cases_Bool (int_le x.first g.first)) [
-  | inl l ↦ rw l refl
-  | inr l ↦ rw l (sym d)
-]
-
-pub lower_le : (x g : Hit) → int_le (lower x g).first x.first ≡ true
-lower_le x g = elim (cases_Bool (int_le x.first g.first)) [
-  | inl l ↦ rw l (self_le x.first)
-  | inr l ↦ rw l (other_le x.first g.first l)
-]
+use Rattle.query_eval.proofs.Lows.{lower_doc, lower_first}
 
 -- if lowering by a hit changes nothing, that hit is no earlier
 unchanged_le : (x h : Hit) → lower x h ≡ x → int_le x.first h.first ≡ true
@@ -48,7 +22,7 @@ unchanged_le x h e = elim (cases_Bool (int_le x.first h.first)) [
   | inl l ↦ l
   | inr l ↦
       let k : lower x h ≡ h = rw l refl in
-      subst (λ (y : Hit). int_le x.first y.first ≡ true) (sym e ∙ k) (self_le x.first)
+      subst (λ (y : Hit). int_le x.first y.first ≡ true) (sym e ∙ k) (le_itself x.first)
 ]
 
 pub at_same : (x : Hit) (xs : List Hit) (g : Hit) → nat_eq x.doc.0 g.doc.0 ≡ true → with_lowered (x ∷ xs) g ≡ lower x g ∷ xs
@@ -95,17 +69,17 @@ lowered_stays (x ∷ xs) h g e = elim (cases_Bool (nat_eq x.doc.0 h.doc.0)) [
       let l = unchanged_le x h low in
       elim (cases_Bool (nat_eq x.doc.0 g.doc.0)) [
         | inl r ↦
-            let d = lower_doc x g (doc_is x.doc.0 g.doc.0 r) in
+            let d = lower_doc x g (eqb-true x.doc.0 g.doc.0 r) in
             subst (λ zs. with_lowered zs h ≡ zs) (sym (at_same x xs g r))
             (stays_head (lower x g) xs h (subst (λ k. nat_eq k h.doc.0 ≡ true) (sym d) q)
-            (le_after (lower x g).first x.first h.first (lower_le x g) l))
+            (le_after (lower x g).first x.first h.first (lower_first x g) l))
         | inr r ↦ subst (λ zs. with_lowered zs h ≡ zs) (sym (at_other x xs g r)) (stays_head x (with_lowered xs g) h q l)
       ]
   | inr q ↦
       let rest : with_lowered xs h ≡ xs = tail_is x x (with_lowered xs h) xs (sym (at_other x xs h q) ∙ e) in
       elim (cases_Bool (nat_eq x.doc.0 g.doc.0)) [
         | inl r ↦
-            let d = lower_doc x g (doc_is x.doc.0 g.doc.0 r) in
+            let d = lower_doc x g (eqb-true x.doc.0 g.doc.0 r) in
             subst (λ zs. with_lowered zs h ≡ zs) (sym (at_same x xs g r))
             (stays_tail (lower x g) xs h (subst (λ k. nat_eq k h.doc.0 ≡ false) (sym d) q) rest)
         | inr r ↦
@@ -191,7 +165,7 @@ module _ (entries : List Entry) (n : ℕ) where
         (λ m i.
         hit_later n kept (record { doc = num; first = b }) (record { doc = m; first = mark })
         (ap (λ (z : DocNum). z.0) (sym q ∙ new_is d m i))
-        (le_is b mark l)
+        (le_yes b mark l)
         e);
   }
 

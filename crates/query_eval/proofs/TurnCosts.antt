@@ -14,6 +14,7 @@ use Rattle.time_marks.specs.declared.ranged_query.RangedQuery.{RangedQuery}
 use Rattle.time_marks.specs.declared.window.Window.{Window}
 use Rattle.time_marks.specs.Probes.{Probe}
 use Rattle.time_marks.specs.Views.{probe_in}
+use Rattle.time_marks.proofs.Lists.{in_left, in_right}
 use Rattle.access_plan.specs.declared.reach.Reach.{Reach}
 use Rattle.probe_eval.specs.Nested.{was_seen}
 use Rattle.probe_eval.specs.Drivers.{hits_at, seek_hits, cost_at, walked, seek_var, seek_cost}
@@ -28,19 +29,10 @@ use Rattle.query_eval.proofs.Settled.{IsStored, stored_more, settled_by, seen_se
 plus_less : (a b c d : ℕ) → a ≤ b → c ≤ d → a + c ≤ b + d
 plus_less a b c d h k = omega (arith, h, k)
 
-in_first : {A : Type 0} (xs ys : List A) (x : A) → In x xs → In x (xs ++ ys)
-in_first (y ∷ xs) ys x (inl e) = inl e
-in_first (y ∷ xs) ys x (inr i) = inr (in_first xs ys x i)
-in_first [] ys x i = absurd i
-
-in_second : {A : Type 0} (xs ys : List A) (x : A) → In x ys → In x (xs ++ ys)
-in_second [] ys x i = i
-in_second (y ∷ xs) ys x i = inr (in_second xs ys x i)
-
 in_flat : {A B : Type 0} (f : A → List B) (xs : List A) (x : A) (y : B) → In x xs → In y (f x) → In y (flat_map f xs)
 in_flat f [] x y i j = absurd i
-in_flat f (z ∷ xs) x y (inl e) j = in_first (f z) (flat_map f xs) y (subst (λ q. In y (f q)) e j)
-in_flat f (z ∷ xs) x y (inr i) j = in_second (f z) (flat_map f xs) y (in_flat f xs x y i j)
+in_flat f (z ∷ xs) x y (inl e) j = in_left (f z) (flat_map f xs) y (subst (λ q. In y (f q)) e j)
+in_flat f (z ∷ xs) x y (inr i) j = in_right (f z) (flat_map f xs) y (in_flat f xs x y i j)
 
 module _ {A : Type 0} where
   -- the steps of the element whose turn it was are taken

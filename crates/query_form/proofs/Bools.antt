@@ -2,24 +2,13 @@
 use Rattle.std.proofs.Common.{◌≡◌, refl, sym, ap, ◌∙◌, List, [], ◌∷◌, Bool, true, false}
 use Rattle.std.specs.Prelude.{◌&&◌, ◌||◌}
 use Rattle.std.specs.List.{list_any}
-
-pub and_true : (x : Bool) → (x && true) ≡ x
-and_true true = refl
-and_true false = refl
-
-pub and_false : (x : Bool) → (x && false) ≡ false
-and_false true = refl
-and_false false = refl
-
-swapped : (c d e f : Bool) → ((c && d) && (e && f)) ≡ ((c && e) && (d && f))
-swapped false d e f = refl
-swapped true true e f = refl
-swapped true false e f = sym (ap (λ x. x) (and_false e))
+use Rattle.std.proofs.lemmas.Bool.{or_right}
+use Rattle.tap_rows.proofs.Tests.{and_never, and_swapped}
 
 pub shuffled : (a b c d e f : Bool) → ((a && b) && ((c && d) && (e && f))) ≡ ((a && (c && e)) && (b && (d && f)))
 shuffled false b c d e f = refl
-shuffled true true c d e f = swapped c d e f
-shuffled true false c d e f = sym (and_false (c && e))
+shuffled true true c d e f = and_swapped c d e f
+shuffled true false c d e f = sym (and_never (c && e))
 
 pub over_right : (l a b : Bool) → ((l && a) || (l && b)) ≡ (l && (a || b))
 over_right true a b = refl
@@ -27,15 +16,8 @@ over_right false a b = refl
 
 pub over_left : (a b r : Bool) → ((a && r) || (b && r)) ≡ ((a || b) && r)
 over_left true b true = refl
-over_left true b false = and_false b
+over_left true b false = and_never b
 over_left false b r = refl
-
-pub or_left : (x y : Bool) → x ≡ true → (x || y) ≡ true
-or_left x y e = rw e refl
-
-pub or_right : (x y : Bool) → y ≡ true → (x || y) ≡ true
-or_right true y e = refl
-or_right false y e = e
 
 pub and_of_ors : (l a b : Bool) → ((l || a) && (l || b)) ≡ (l || (a && b))
 and_of_ors true a b = refl
@@ -72,5 +54,5 @@ module _ {A : Type 0} where
   any_or p q (x ∷ xs) = or_swapped (p x) (list_any p xs) (q x) (list_any q xs) ∙ ap (λ b. (p x || q x) || b) (any_or p q xs)
 
   pub any_pulled : (b h : Bool) (p : A → Bool) (xs : List A) → list_any (λ x. b && (p x && h)) xs ≡ (b && (list_any p xs && h))
-  any_pulled b h p [] = sym (and_false b)
+  any_pulled b h p [] = sym (and_never b)
   any_pulled b h p (x ∷ xs) = ap (λ z. (b && (p x && h)) || z) (any_pulled b h p xs) ∙ pulled b h (p x) (list_any p xs)

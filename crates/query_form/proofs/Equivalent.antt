@@ -7,6 +7,7 @@ use Rattle.tql_core.specs.declared.term.Var.{Var}
 use Rattle.tql_core.specs.Condition.{Condition, Always, Never, Plain, NowAtLeast, NowBefore, All, Either, Not, Exists}
 use Rattle.tql_core.specs.Row.{Row, rows_of}
 use Rattle.tap_rows.specs.declared.tables.Tables.{Tables}
+use Rattle.tap_rows.proofs.Tests.{and_end}
 use Rattle.tql_core.specs.Values.{Env, bind}
 use Rattle.tql_core.specs.Holds.{truth}
 use Rattle.query_form.specs.declared.place.Place.{Place}
@@ -14,7 +15,7 @@ use Rattle.query_form.specs.declared.place.Place.TheVariants.{Before, Inside, Af
 use Rattle.query_form.specs.Form.{names, has_exists, has_key, may_split, conjoined, place_of, same_place, only_if, conjuncts, beside}
 use Rattle.query_form.specs.Form.{narrowed, cross_right, cross, distributed, exists_each, split, formed, node_count}
 use Rattle.query_form.specs.Laws.{FormsAreEquivalent}
-use Rattle.query_form.proofs.Bools.{and_true, shuffled, over_right, over_left, any_same, any_or, any_pulled}
+use Rattle.query_form.proofs.Bools.{shuffled, over_right, over_left, any_same, any_or, any_pulled}
 use Rattle.query_form.proofs.Unnamed.{agree_bound, truth_kept}
 
 conjoined_names : (v : Var) (l r : Condition) → names v l ≡ false → names v r ≡ false → names v (conjoined l r) ≡ false
@@ -43,7 +44,7 @@ conjuncts_apart v p x apart = part_apart v p x apart
 module _ (T : Tables) (s : ℤ) where
   conjoined_true : (l r : Condition) (env : Env) → truth T s (conjoined l r) env ≡ (truth T s l env && truth T s r env)
   conjoined_true Always r env = refl
-  conjoined_true l Always env = sym (and_true (truth T s l env))
+  conjoined_true l Always env = sym (and_end (truth T s l env))
   conjoined_true l r env = refl
 
   chosen : (b : Bool) (x y : Condition) (z : Bool) (env : Env) → truth T s x env ≡ z → truth T s y env ≡ z
@@ -58,8 +59,8 @@ module _ (T : Tables) (s : ℤ) where
   part_true : (p : Place) (x : Condition) (env : Env)
       → (truth T s (only_if (same_place Before p) x) env
       && (truth T s (only_if (same_place Inside p) x) env && truth T s (only_if (same_place After p) x) env)) ≡ truth T s x env
-  part_true Before x env = and_true (truth T s x env)
-  part_true Inside x env = and_true (truth T s x env)
+  part_true Before x env = and_end (truth T s x env)
+  part_true Inside x env = and_end (truth T s x env)
   part_true After x env = refl
 
   conjuncts_true : (v : Var) (x : Condition) (env : Env)

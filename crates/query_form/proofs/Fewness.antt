@@ -2,13 +2,13 @@
 use Rattle.std.proofs.Common.{◌≡◌, ℕ, ◌+◌, ◌*◌, ◌≤◌, true, false, Bool, refl, sym, ◌∙◌, subst, inl, inr, arith}
 use Rattle.std.specs.Prelude.{◌⊎◌, ◌&&◌, ◌||◌, nat_le, if◌then◌else◌}
 use Rattle.std.proofs.Math.Nat.{le-mul_of_pos_right, one-le-mul, mul_comm, add-mul, one-mul}
-use Rattle.std.proofs.lemmas.Bool.{leb-true}
+use Rattle.std.proofs.lemmas.Bool.{leb-true, or_left, or_right}
 use Rattle.tql_core.specs.declared.term.Var.{Var}
 use Rattle.tql_core.specs.Condition.{Condition, All, Either, Exists}
 use Rattle.query_form.specs.Form.{has_key, at_most, alternatives, cross_right, cross, distributed, exists_each, split, exists_count}
 use Rattle.query_form.specs.Form.{node_count, formed}
 use Rattle.query_form.specs.Laws.{FormsAreSmall, IsSplit, SplitsAreFew}
-use Rattle.query_form.proofs.Bools.{and_of_ors, or_of_and, or_left, or_right}
+use Rattle.query_form.proofs.Bools.{and_of_ors, or_of_and}
 
 pub forms_are_small : FormsAreSmall
 forms_are_small c = go (nat_le (node_count (formed c)) 128) refl

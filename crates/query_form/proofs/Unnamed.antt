@@ -1,7 +1,7 @@
 -- A condition that doesn't name a variable is true whatever row that has.
 use Rattle.std.proofs.Common.{◌≡◌, ℕ, ℤ, false, Some, refl, sym, ap, ◌∙◌, inl, inr}
 use Rattle.std.specs.Prelude.{◌+ℤ◌, nat_eq, not}
-use Rattle.std.proofs.lemmas.Bool.{cases_eq, eq-eqb, ne_eqb, eqb-false, or_parts}
+use Rattle.std.proofs.lemmas.Bool.{cases_eq, eq-eqb, eqb-false, or_parts}
 use Rattle.tql_core.specs.declared.term.Var.{Var}
 use Rattle.tql_core.specs.declared.term.Base.{Base}
 use Rattle.tql_core.specs.declared.term.Base.TheVariants.{Arrival, Date, Fixed, ArrivalDay, DateDay}
@@ -18,6 +18,7 @@ use Rattle.tap_rows.specs.declared.tables.Tables.{Tables}
 use Rattle.tql_core.specs.Values.{Env, bind, lookup, on_row, round_up_to_day, day_of, base_value, plus_to, value, field, number, text_field}
 use Rattle.tql_core.specs.Values.{text, true_atom}
 use Rattle.tql_core.specs.Holds.{truth}
+use Rattle.tql_core.proofs.Bound.{bind_other}
 use Rattle.query_form.specs.Form.{base_names, number_names, text_names, atom_names, names}
 use Rattle.query_form.proofs.Bools.{any_same}
 
@@ -25,20 +26,14 @@ use Rattle.query_form.proofs.Bools.{any_same}
 abbrev pub AgreeBut : Var → Env → Env → Type 0
 AgreeBut v env final = (k : ℕ) → (k ≡ v.0 → ⊥) → lookup k final ≡ lookup k env
 
-bound_same : (v : Var) (r : Row) (env : Env) → lookup v.0 (bind v r env) ≡ Some r
-bound_same v r env = rw (eq-eqb v.0 v.0 refl)
-
-bound_other : (k : ℕ) (v : Var) (r : Row) (env : Env) → (k ≡ v.0 → ⊥) → lookup k (bind v r env) ≡ lookup k env
-bound_other k v r env h = rw (ne_eqb k v.0 h)
-
 pub agree_bound : (v : Var) (r : Row) (env : Env) → AgreeBut v env (bind v r env)
-agree_bound v r env k h = bound_other k v r env h
+agree_bound v r env k h = bind_other k v r env h
 
 agree_bind : (v w : Var) (r : Row) (env final : Env) → AgreeBut v env final → AgreeBut v (bind w r env) (bind w r final)
 agree_bind v w r env final h k n =
     elim (cases_eq k w.0) [
       | inl e ↦ at_same k e
-      | inr m ↦ bound_other k w r final m ∙ h k n ∙ sym (bound_other k w r env m)
+      | inr m ↦ bind_other k w r final m ∙ h k n ∙ sym (bind_other k w r env m)
     ]
   where
     at_same : (k : ℕ) → k ≡ w.0 → lookup k (bind w r final) ≡ lookup k (bind w r env)

@@ -1,2 +1,2 @@
-mod RunPlans
+pub mod RunPlans
 mod WakePlans

@@ -37,7 +37,7 @@ is_probe = record {
   body = tt;
 }
 
-tree_is : (nodes : List TNode) (id : ℕ) → slice_get nodes id ≡ Some N.True → tree_at nodes id ≡ Always
+pub tree_is : (nodes : List TNode) (id : ℕ) → slice_get nodes id ≡ Some N.True → tree_at nodes id ≡ Always
 tree_is nodes id e = ap (λ o. node_tree o (tree nodes id)) e
 
 -- the probe in the code
@@ -70,15 +70,15 @@ are_probes nodes parts id e t x i = subst IsProbe (sym (only (subst (In x) (twic
     }) (tree_is nodes id t)
 
 -- its query keeps what queries keep
-get_less : (nodes : List TNode) (id : ℕ) (node : TNode) → slice_get nodes id ≡ Some node → id < length nodes
+pub get_less : (nodes : List TNode) (id : ℕ) (node : TNode) → slice_get nodes id ≡ Some node → id < length nodes
 get_less [] id node e = absurd cc
 get_less (n ∷ ns) zero node e = omega arith
 get_less (n ∷ ns) (suc id) node e = let k = get_less ns id node e in omega (arith, k)
 
-to_lt : (a n : ℕ) → a < n → nat_lt a n ≡ true
+pub to_lt : (a n : ℕ) → a < n → nat_lt a n ≡ true
 to_lt a n h = grind arith
 
-get_below : (nodes : List TNode) (id : ℕ) (node : TNode) → slice_get nodes id ≡ Some node → nat_lt id (length nodes) ≡ true
+pub get_below : (nodes : List TNode) (id : ℕ) (node : TNode) → slice_get nodes id ≡ Some node → nat_lt id (length nodes) ≡ true
 get_below nodes id node e = to_lt id (length nodes) (get_less nodes id node e)
 
 pub kept_old : (nodes : List TNode) (parts : List Ranged) (id : ℕ) → map (λ (part : Ranged). part.probe) parts ≡ old_code id ∷ []

@@ -1,6 +1,6 @@
 -- The probes of the plan that the tests use.
-use Rattle.std.proofs.Common.{◌≡◌, ℕ, zero, suc, true, length, ◌<◌, ◌∙◌, List, [], ◌∷◌, Some, refl, sym, ap, subst, inl, inr, arith}
-use Rattle.std.specs.Prelude.{◌&&◌, nat_lt, map, slice_get}
+use Rattle.std.proofs.Common.{◌≡◌, ℕ, true, ◌∙◌, List, [], ◌∷◌, Some, refl, sym, ap, subst, inl, inr, arith}
+use Rattle.std.specs.Prelude.{◌&&◌, map, slice_get}
 use Rattle.std.specs.List.{list_all}
 use Rattle.tql_tree.specs.declared.table.Table.TheVariants.{Docs}
 use Rattle.tql_core.specs.declared.term.Term.{Term}
@@ -9,7 +9,6 @@ use Rattle.tql_core.specs.declared.tnode.TNode.TheVariants as N
 use Rattle.tql_core.specs.Condition.{Always}
 use Rattle.tql_core.specs.Scope.{BaseIn}
 use Rattle.tap_rows.specs.Kept.{In}
-use Rattle.tql_core.specs.Trees.{tree, tree_at, node_tree}
 use Rattle.time_marks.specs.declared.ranged.Ranged.{Ranged}
 use Rattle.time_marks.specs.Found.{IsProbe}
 use Rattle.time_marks.specs.Kept.{is_kept}
@@ -19,6 +18,7 @@ use Rattle.time_marks.specs.Probes.{Probe}
 use Rattle.time_marks.specs.Views.{probe_in}
 use Rattle.time_marks.proofs.Lists.{in_map, map_in}
 use Rattle.query_tests.specs.Samples.{sample_probe, sample_marks}
+use Rattle.query_tests.proofs.RunPlans.{get_below, tree_is}
 
 probe_at : Term → Probe
 probe_at at = record { path = record { var = document_var; table = Docs; guards = [] } ∷ []; at = at; body = Always }
@@ -41,9 +41,6 @@ marks_own at (inr (inl e)) = subst (λ (z : Term). BaseIn (0 ∷ []) z.base) (sy
 marks_own at (inr (inr (inl e))) = subst (λ (z : Term). BaseIn (0 ∷ []) z.base) (sym e) tt
 marks_own at (inr (inr (inr x))) = absurd x
 
-tree_is : (nodes : List TNode) (id : ℕ) → slice_get nodes id ≡ Some N.True → tree_at nodes id ≡ Always
-tree_is nodes id e = ap (λ o. node_tree o (tree nodes id)) e
-
 pub three_probes : (nodes : List TNode) (parts : List Ranged) (id : ℕ)
     → map (λ (part : Ranged). part.probe) parts ≡ map (sample_probe id) sample_marks → slice_get nodes id ≡ Some N.True → (x : Probe)
     → In x (map (λ (part : Ranged). probe_in nodes part.probe) parts) → IsProbe x
@@ -56,18 +53,6 @@ three_probes nodes parts id e t x i =
     ∙ ap (λ y. record { path = record { var = document_var; table = Docs; guards = [] } ∷ []; at = b.0; body = y })
     (tree_is nodes id t) in
     subst IsProbe (sym q) (is_probe b.0 (marks_own b.0 b.1))
-
--- its query keeps what queries keep
-get_less : (nodes : List TNode) (id : ℕ) (node : TNode) → slice_get nodes id ≡ Some node → id < length nodes
-get_less [] id node e = absurd cc
-get_less (n ∷ ns) zero node e = omega arith
-get_less (n ∷ ns) (suc id) node e = let k = get_less ns id node e in omega (arith, k)
-
-to_lt : (a n : ℕ) → a < n → nat_lt a n ≡ true
-to_lt a n h = grind arith
-
-get_below : (nodes : List TNode) (id : ℕ) (node : TNode) → slice_get nodes id ≡ Some node → nat_lt id (length nodes) ≡ true
-get_below nodes id node e = to_lt id (length nodes) (get_less nodes id node e)
 
 pub three_kept : (nodes : List TNode) (parts : List Ranged) (id : ℕ) → map (λ (part : Ranged). part.probe) parts
     ≡ map (sample_probe id) sample_marks → slice_get nodes id ≡ Some N.True → parts_kept nodes parts ≡ true

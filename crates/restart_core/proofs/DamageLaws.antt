@@ -16,6 +16,7 @@ use Rattle.tap_rows.specs.Kept.{Each}
 use Rattle.tap_rows.specs.WellFormed.{may_follow, row_at, docs_stand, doc_stands, has_arrived, note_stands, notes_stand, is_query_of}
 use Rattle.tap_rows.specs.WellFormed.{query_stands, queries_stand, was_defined, run_stands, runs_stand, is_picked, comes_after, pick_stands}
 use Rattle.tap_rows.specs.WellFormed.{picks_stand, filter_stands, filters_stand, is_well_formed}
+use Rattle.tap_rows.proofs.Tests.{and_swapped}
 use Rattle.tql_core.specs.Condition.{Condition}
 use Rattle.tql_text.specs.declared.fault.TextFault.{TextFault}
 use Rattle.restart_core.specs.Readings.{reading_of}
@@ -102,12 +103,6 @@ notes-none docs place low (note ∷ notes) =
     (is_name note.kind) Number Moment Reference Name)
     (notes-none docs (place + 1) note.arrival notes)
 
-crossed : (a r x y : Bool) → ((a && r) && (x && y)) ≡ ((a && x) && (r && y))
-crossed true true x y = refl
-crossed true false true y = refl
-crossed true false false y = refl
-crossed false r x y = refl
-
 queries-none : (earlier : List QueryRow) (place : ℕ) (low : ℤ) (queries : List QueryRow)
     → is_none (queries_damage earlier place low queries) ≡ (queries_stand earlier place low queries && list_all is_readable queries)
 queries-none earlier place low [] = refl
@@ -119,7 +114,7 @@ queries-none earlier place low (query ∷ queries) =
     (five (query.num.0 == place) (may_follow low query.arrival) (is_name query.owner) (is_name query.name)
     (not (list_any (is_query_of query.owner query.name) earlier)) (is_readable query) Number Moment Name Twice Text)
     (queries-none (earlier ++ query ∷ []) (place + 1) query.arrival queries)
-    ∙ crossed (query_stands earlier place low query) (is_readable query)
+    ∙ and_swapped (query_stands earlier place low query) (is_readable query)
     (queries_stand (earlier ++ query ∷ []) (place + 1) query.arrival queries) (list_all is_readable queries)
 
 runs-none : (queries : List QueryRow) (place : ℕ) (low : ℤ) (runs : List RunRow)

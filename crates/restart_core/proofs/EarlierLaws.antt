@@ -1,14 +1,14 @@
 -- Sets of what earlier rows have taken: a key is among theirs just where a row of theirs has it.
-use Rattle.std.proofs.Common.{◌≡◌, ◌∙◌, sym, ap, refl, arith, ℕ, Bool, true, false, List, [], ◌∷◌, ◌++◌, map}
+use Rattle.std.proofs.Common.{◌≡◌, ◌∙◌, sym, ap, refl, ℕ, Bool, true, false, List, [], ◌∷◌, ◌++◌, map}
 use Rattle.std.specs.Prelude.{◌||◌, ◌&&◌, ◌==◌, not}
 use Rattle.std.specs.List.{list_any}
 use Rattle.std.specs.Str.{bytes_eq}
 use Rattle.std.proofs.lemmas.List.{map-append}
-use Rattle.std.proofs.lemmas.Slice.Eq.{bytes_eq-Decides}
 use Rattle.indexmap.specs.IndexSet.{insert_key}
 use Rattle.tap_rows.specs.declared.rows.QueryRow.{QueryRow}
 use Rattle.tap_rows.specs.declared.rows.Pick.{Pick}
 use Rattle.tap_rows.specs.WellFormed.{is_query_of}
+use Rattle.tap_rows.proofs.Tests.{bytes_flip, nat_flip}
 use Rattle.restart_core.specs.declared.picked.Pair.{Pair}
 use Rattle.restart_core.specs.declared.names.Named.{Named}
 use Rattle.restart_core.specs.contracts.picked.PairPartialEq.TheImpl as pair
@@ -33,25 +33,13 @@ added eq key keys xs x is new = go (list_any (eq (key x)) keys) refl new where
     false-true h = cc
   go false e h = rw e (ap (λ ks. ks ++ key x ∷ []) is ∙ sym (map-append key xs (x ∷ [])))
 
-same-test : (x y : Bool) → (x ≡ true → y ≡ true) → (y ≡ true → x ≡ true) → x ≡ y
-same-test true y f g = sym (f refl)
-same-test false true f g = g refl
-same-test false false f g = refl
-
-bytes-flip : (a b : List ℕ) → bytes_eq a b ≡ bytes_eq b a
-bytes-flip a b = same-test (bytes_eq a b) (bytes_eq b a) (λ e. (bytes_eq-Decides b a).1 (sym ((bytes_eq-Decides a b).0 e))) (λ e.
-    (bytes_eq-Decides a b).1 (sym ((bytes_eq-Decides b a).0 e)))
-
-flip : (m n : ℕ) → (m == n) ≡ (n == m)
-flip m n = grind arith
-
 pair-same : (pick other : Pick) → pair.ghosts.eq (pair_of pick) (pair_of other) ≡ is_same_pick pick other
-pair-same pick other = ap (λ b. b && (pick.doc.0 == other.doc.0)) (flip pick.query.0 other.query.0)
-    ∙ ap (λ b. (other.query.0 == pick.query.0) && b) (flip pick.doc.0 other.doc.0)
+pair-same pick other = ap (λ b. b && (pick.doc.0 == other.doc.0)) (nat_flip pick.query.0 other.query.0)
+    ∙ ap (λ b. (other.query.0 == pick.query.0) && b) (nat_flip pick.doc.0 other.doc.0)
 
 named-same : (query other : QueryRow) → named.ghosts.eq (named_of query) (named_of other) ≡ is_query_of query.owner query.name other
-named-same query other = ap (λ b. b && bytes_eq query.name other.name) (bytes-flip query.owner other.owner)
-    ∙ ap (λ b. bytes_eq other.owner query.owner && b) (bytes-flip query.name other.name)
+named-same query other = ap (λ b. b && bytes_eq query.name other.name) (bytes_flip query.owner other.owner)
+    ∙ ap (λ b. bytes_eq other.owner query.owner && b) (bytes_flip query.name other.name)
 
 pub pick-among : (keys : List Pair) (pick : Pick) (picks : List Pick) → keys ≡ map pair_of picks
     → list_any (pair.ghosts.eq (pair_of pick)) keys ≡ list_any (is_same_pick pick) picks

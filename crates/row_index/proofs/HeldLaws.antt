@@ -18,6 +18,7 @@ use Rattle.row_index.specs.declared.note_places.NotePlaces.{NotePlaces}
 use Rattle.row_index.specs.Texts.{IsNext, IsCut, TextPosts, words_in, list_of}
 use Rattle.row_index.specs.Notes.{NotePosts, IsNextNote, IsNoteForgotten}
 use Rattle.tap_rows.specs.Fields.{fields}
+use Rattle.tap_rows.proofs.Tests.{bytes_same}
 use Rattle.row_index.specs.Dates.{DatePosts}
 use Rattle.row_index.specs.Held.{NumberPosts, DocPosts, IsIndexOf, AreSized, HasValue}
 use Rattle.row_index.proofs.InPlaces.{in_place_more, in_place_less, number_of_last}
@@ -25,7 +26,7 @@ use Rattle.row_index.proofs.PostLaws.{fresh_place}
 use Rattle.row_index.proofs.NumberLaws.{sizes_less}
 use Rattle.row_index.specs.Numbers.{doc_sizes}
 use Rattle.row_index.proofs.NoteLaws.{notes_less}
-use Rattle.row_index.proofs.TextLaws.{same_text, texts_cut}
+use Rattle.row_index.proofs.TextLaws.{texts_cut}
 use Rattle.tap_base.specs.Numbers.{IsMoment}
 
 place_behind : (p n len : ℕ) → p ≡ n - 1 → n ≡ len + 1 → p ≡ len
@@ -158,7 +159,7 @@ pub word_place_free : (docs : List Doc) (places : DocPlaces) (notes : List Note)
     → IsIndexOf docs places notes note_places → p ≡ length docs → IsFreePlace p (list_of Word places.texts)
 word_place_free docs places notes note_places p h is = λ key.
     ap (λ k. ends_with k (under bytes_eq key (list_of Word places.texts))) is
-    ∙ fresh_place bytes_eq same_text words_in doc_number docs (list_of Word places.texts) key h.docs_stand.numbered
+    ∙ fresh_place bytes_eq bytes_same words_in doc_number docs (list_of Word places.texts) key h.docs_stand.numbered
     (h.docs_found.texts Word)
 
 -- what finds the first documents

@@ -8,6 +8,7 @@ use Rattle.std.proofs.lemmas.Bool.{and_parts}
 use Rattle.tap_rows.specs.declared.rows.Doc.{Doc}
 use Rattle.tap_rows.specs.Arrivals.{Arrived}
 use Rattle.tap_rows.specs.Kept.{Each}
+use Rattle.tap_rows.proofs.Tests.{le_from, le_yes}
 use Rattle.row_index.specs.Orders.{InPlace, Numbered, IsRisingBy, doc_number, doc_arrival}
 use Rattle.tap_base.specs.Numbers.{IsMoment}
 
@@ -58,9 +59,6 @@ module _ {A : Type 0} (number : A → ℕ) where
       let e : number x ≡ n = h.0 in
       (no_lower (number x) (n + 1) xs h.1 (omega (arith, e)), numbers_rise (n + 1) xs h.1)
 
-le_of : (a b : ℤ) → int_le a b ≡ true → a ≤ℤ b
-le_of a b h = grind (arith, ints)
-
 -- documents in their places arrived one after another
 arrived_from : (n : ℕ) (low : ℤ) (docs : List Doc) → Numbered doc_number n docs → IsRisingBy doc_arrival docs
     → Each (λ doc. low ≤ℤ doc.arrival) docs → Arrived n low docs
@@ -72,7 +70,7 @@ arrived_from n low (doc ∷ docs) h r e =
     all_from [] a = tt
     all_from (d ∷ ds) a =
         let p = and_parts (int_le doc.arrival d.arrival) (list_all (λ d. int_le doc.arrival d.arrival) ds) a in
-        (le_of _ _ p.0, all_from ds p.1)
+        (le_from _ _ p.0, all_from ds p.1)
 
 early_each : (docs : List Doc) → Each (λ doc. IsMoment doc.arrival) docs → Each (λ doc. pos 0 ≤ℤ doc.arrival) docs
 early_each [] e = tt
@@ -82,9 +80,6 @@ pub arrived_of : (docs : List Doc) → InPlace doc_number doc_arrival docs → A
 arrived_of docs h = arrived_from 1 (pos 0) docs h.numbered h.rising (early_each docs h.moments)
 
 -- one row more, or the last one less
-
-le_true : (a b : ℤ) → a ≤ℤ b → int_le a b ≡ true
-le_true a b h = grind (arith, ints)
 
 module _ {A : Type 0} where
   each_onto : (P : A → Type 0) (xs : List A) (x : A) → Each P xs → P x → Each P (xs ++ x ∷ [])
@@ -118,7 +113,7 @@ module _ {A : Type 0} where
 
   rising_onto : (f : A → ℤ) (xs : List A) (x : A) → IsRisingBy f xs → Each (λ y. f y ≤ℤ f x) xs → IsRisingBy f (xs ++ x ∷ [])
   rising_onto f [] x r e = (refl, tt)
-  rising_onto f (y ∷ ys) x r e = (all_onto (λ z. int_le (f y) (f z)) ys x r.0 (le_true _ _ e.0), rising_onto f ys x r.1 e.1)
+  rising_onto f (y ∷ ys) x r e = (all_onto (λ z. int_le (f y) (f z)) ys x r.0 (le_yes _ _ e.0), rising_onto f ys x r.1 e.1)
 
   rising_front : (f : A → ℤ) (xs : List A) (x : A) → IsRisingBy f (xs ++ x ∷ []) → IsRisingBy f xs
   rising_front f [] x r = tt

@@ -5,6 +5,7 @@ use Rattle.std.specs.Ordering.{int_eq}
 use Rattle.std.specs.Str.{bytes_eq}
 use Rattle.std.proofs.lemmas.Bool.{cases_Bool}
 use Rattle.tap_rows.specs.declared.rows.Note.{Note}
+use Rattle.tap_rows.proofs.Tests.{bytes_same}
 use Rattle.row_index.specs.declared.note_places.NotePlaces.{NotePlaces}
 use Rattle.row_index.specs.declared.note_text_kind.NoteTextKind.TheVariants.{Author, Kind, Text}
 use Rattle.row_index.specs.Orders.{note_number}
@@ -14,7 +15,6 @@ use Rattle.row_index.specs.Numbers.{note_docs, note_values}
 use Rattle.row_index.specs.Notes.{note_texts_of, NotePosts, IsNextNote, IsNotePosted, IsNotePartly, IsNoteForgotten}
 use Rattle.row_index.proofs.PostLaws.{under_unposted, not_taken, fresh_place, posts_more, posts_less}
 use Rattle.row_index.proofs.NumberLaws.{same_int}
-use Rattle.row_index.proofs.TextLaws.{same_text}
 
 -- a note of one key
 module _ {K : Type 0} (eq : K → K → Bool) (sound : (x y : K) → eq x y ≡ true → x ≡ y) (keys : Note → List K) (notes : List Note)
@@ -65,18 +65,18 @@ module _ (notes : List Note) (note : Note) (p : ℕ) (next : IsNextNote notes no
   notes_more old new f t = record {
     doc = key_more int_eq same_int note_docs notes note p (pos note.doc.0) next refl old.doc new.doc f.doc t.doc;
     value = key_more int_eq same_int note_values notes note p note.value next refl old.value new.value f.value t.value;
-    author = key_more bytes_eq same_text (note_texts_of Author) notes note p note.author next refl old.author new.author f.author t.author;
-    kind = key_more bytes_eq same_text (note_texts_of Kind) notes note p note.kind next refl old.kind new.kind f.kind t.kind;
-    text = key_more bytes_eq same_text (note_texts_of Text) notes note p note.text next refl old.text new.text f.text t.text;
+    author = key_more bytes_eq bytes_same (note_texts_of Author) notes note p note.author next refl old.author new.author f.author t.author;
+    kind = key_more bytes_eq bytes_same (note_texts_of Kind) notes note p note.kind next refl old.kind new.kind f.kind t.kind;
+    text = key_more bytes_eq bytes_same (note_texts_of Text) notes note p note.text next refl old.text new.text f.text t.text;
   }
 
   pub notes_less : (old new : NotePlaces) → IsNoteForgotten note p old new → NotePosts (notes ++ note ∷ []) old → NotePosts notes new
   notes_less old new f t = record {
     doc = key_less int_eq same_int note_docs notes note p (pos note.doc.0) next refl old.doc new.doc f.doc t.doc;
     value = key_less int_eq same_int note_values notes note p note.value next refl old.value new.value f.value t.value;
-    author = key_less bytes_eq same_text (note_texts_of Author) notes note p note.author next refl old.author new.author f.author t.author;
-    kind = key_less bytes_eq same_text (note_texts_of Kind) notes note p note.kind next refl old.kind new.kind f.kind t.kind;
-    text = key_less bytes_eq same_text (note_texts_of Text) notes note p note.text next refl old.text new.text f.text t.text;
+    author = key_less bytes_eq bytes_same (note_texts_of Author) notes note p note.author next refl old.author new.author f.author t.author;
+    kind = key_less bytes_eq bytes_same (note_texts_of Kind) notes note p note.kind next refl old.kind new.kind f.kind t.kind;
+    text = key_less bytes_eq bytes_same (note_texts_of Text) notes note p note.text next refl old.text new.text f.text t.text;
   }
 
   pub notes_undone : (old part new : NotePlaces) → IsNotePartly note p old part → IsNoteForgotten note p part new → NotePosts notes old
@@ -84,10 +84,10 @@ module _ (notes : List Note) (note : Note) (p : ℕ) (next : IsNextNote notes no
   notes_undone old part new f u t = record {
     doc = key_undone int_eq same_int note_docs notes note p (pos note.doc.0) next refl old.doc part.doc new.doc f.doc u.doc t.doc;
     value = key_undone int_eq same_int note_values notes note p note.value next refl old.value part.value new.value f.value u.value t.value;
-    author = key_undone bytes_eq same_text (note_texts_of Author) notes note p note.author next refl old.author part.author new.author
+    author = key_undone bytes_eq bytes_same (note_texts_of Author) notes note p note.author next refl old.author part.author new.author
         f.author u.author t.author;
-    kind = key_undone bytes_eq same_text (note_texts_of Kind) notes note p note.kind next refl old.kind part.kind new.kind
+    kind = key_undone bytes_eq bytes_same (note_texts_of Kind) notes note p note.kind next refl old.kind part.kind new.kind
         f.kind u.kind t.kind;
-    text = key_undone bytes_eq same_text (note_texts_of Text) notes note p note.text next refl old.text part.text new.text
+    text = key_undone bytes_eq bytes_same (note_texts_of Text) notes note p note.text next refl old.text part.text new.text
         f.text u.text t.text;
   }

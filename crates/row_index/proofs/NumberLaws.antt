@@ -7,6 +7,7 @@ use Rattle.std.proofs.lemmas.Bool.Decides.{Decides-eqb, Decides-int_eq}
 use Rattle.tap_rows.specs.declared.rows.Doc.{Doc}
 use Rattle.tap_rows.specs.declared.rows.Note.{Note}
 use Rattle.tap_rows.specs.Fields.{fields}
+use Rattle.tap_rows.proofs.Tests.{or_end, pos_same}
 use Rattle.row_index.specs.Orders.{doc_number}
 use Rattle.row_index.specs.Places.{posted, unposted}
 use Rattle.row_index.specs.Posts.{Posts, with_key}
@@ -23,13 +24,6 @@ same_test : (a b : Bool) → (a ≡ true → b ≡ true) → (b ≡ true → a �
 same_test true b f g = sym (f refl)
 same_test false true f g = g refl
 same_test false false f g = refl
-
-or_none : (b : Bool) → (b || false) ≡ b
-or_none true = refl
-or_none false = refl
-
-pos_same : (m n : ℕ) → pos m ≡ pos n → m ≡ n
-pos_same m n e = cc
 
 int_back : (x y : ℤ) → int_eq x y ≡ int_eq y x
 int_back x y = same_test (int_eq x y) (int_eq y x) (turn x y) (turn y x) where
@@ -60,7 +54,7 @@ kept_alike f g h (x ∷ xs) =
 
 pub found_of_size : (size : ℕ) (docs : List Doc) → with_key int_eq doc_sizes (pos size) docs ≡ of_size size docs
 found_of_size size docs = kept_alike (λ doc. int_eq (pos size) (pos (fields doc).size) || false) (λ doc. nat_eq (fields doc).size size)
-    (λ doc. or_none (int_eq (pos size) (pos (fields doc).size)) ∙ int_of_nat size (fields doc).size ∙ nat_back size (fields doc).size) docs
+    (λ doc. or_end (int_eq (pos size) (pos (fields doc).size)) ∙ int_of_nat size (fields doc).size ∙ nat_back size (fields doc).size) docs
 
 pub found_on_doc : (doc : ℕ) (notes : List Note) → with_key int_eq note_docs (pos doc) notes ≡ indexed_notes doc notes
 found_on_doc doc notes = kept_alike (λ note. int_eq (pos doc) (pos note.doc.0) || false) (λ note. nat_eq doc note.doc.0 || false)
@@ -68,7 +62,7 @@ found_on_doc doc notes = kept_alike (λ note. int_eq (pos doc) (pos note.doc.0) 
 
 pub found_valued : (value : ℤ) (notes : List Note) → with_key int_eq note_values value notes ≡ notes_valued value notes
 found_valued value notes = kept_alike (λ note. int_eq value note.value || false) (λ note. int_eq note.value value)
-    (λ note. or_none (int_eq value note.value) ∙ int_back value note.value) notes
+    (λ note. or_end (int_eq value note.value) ∙ int_back value note.value) notes
 
 -- a document is put under its size, or removed
 

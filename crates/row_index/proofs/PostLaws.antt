@@ -6,6 +6,7 @@ use Rattle.std.proofs.lemmas.Bool.{cases_Bool, true≢false}
 use Rattle.row_index.specs.Places.{is_row_number, ends_with, with_place, without_place, under, posted, unposted}
 use Rattle.row_index.specs.Posts.{posted_all, unposted_all, is_one_of, with_key, places_of, Posts}
 use Rattle.tap_rows.specs.Kept.{Each}
+use Rattle.tap_rows.proofs.Tests.{nat_itself}
 use Rattle.row_index.specs.Orders.{Numbered}
 
 -- lists of places
@@ -17,12 +18,9 @@ at_end p (x ∷ xs) = at_end p xs
 last_place : (p : ℕ) (xs : List ℕ) → length (xs ++ p ∷ []) - 1 ≡ length xs
 last_place p xs = let e : length (xs ++ p ∷ []) ≡ length xs + 1 = length-append xs (p ∷ []) in omega (arith, e)
 
-same_number : (p : ℕ) → nat_eq p p ≡ true
-same_number p = grind arith
-
 pub ends_put : (p : ℕ) (xs : List ℕ) → ends_with p (xs ++ p ∷ []) ≡ true
 ends_put p xs = ap (λ k. is_row_number p (slice_get (xs ++ p ∷ []) k)) (last_place p xs) ∙ ap (λ o. is_row_number p o) (at_end p xs)
-    ∙ same_number p
+    ∙ nat_itself p
 
 front_of : (p : ℕ) (xs : List ℕ) → take (length xs) (xs ++ p ∷ []) ≡ xs
 front_of p [] = refl

@@ -1,7 +1,7 @@
 -- A document stands in at most one list of the texts of a single kind.
-use Rattle.std.proofs.Common.{◌≡◌, ℕ, ◌-◌, Bool, true, false, List, [], ◌∷◌, Option, Some, None, filter, refl, sym, ap, ◌∙◌, subst, inl}
+use Rattle.std.proofs.Common.{◌≡◌, ℕ, ◌-◌, Bool, true, List, [], ◌∷◌, Option, Some, None, filter, sym, ap, ◌∙◌, subst, inl}
 use Rattle.std.proofs.Common.{inr}
-use Rattle.std.specs.Prelude.{◌||◌, slice_get}
+use Rattle.std.specs.Prelude.{slice_get}
 use Rattle.std.specs.Option.{option_to_list}
 use Rattle.std.specs.Str.{bytes_eq}
 use Rattle.std.proofs.lemmas.Bool.{cases_Bool}
@@ -14,12 +14,8 @@ use Rattle.row_index.specs.Orders.{InPlace, doc_number, doc_arrival}
 use Rattle.row_index.specs.Posts.{is_one_of}
 use Rattle.row_index.specs.Texts.{is_single, texts_of, with_text}
 use Rattle.row_index.proofs.ListWindows.{IsOwn, own_listed}
-use Rattle.row_index.proofs.TextLaws.{same_text}
 use Rattle.tap_rows.specs.Fields.{fields}
-
-or_false : (b : Bool) → (b || false) ≡ b
-or_false true = refl
-or_false false = refl
+use Rattle.tap_rows.proofs.Tests.{or_end, bytes_same}
 
 -- who has one text at most has no other
 alone : (o : Option (List ℕ)) (t u : List ℕ) → is_one_of bytes_eq t (option_to_list o) ≡ true
@@ -28,7 +24,7 @@ alone None t u h k = absurd cc
 alone (Some x) t u h k = is t h ∙ sym (is u k)
   where
     is : (y : List ℕ) → is_one_of bytes_eq y (option_to_list (Some x)) ≡ true → y ≡ x
-    is y e = same_text y x (sym (or_false (bytes_eq y x)) ∙ e)
+    is y e = bytes_same y x (sym (or_end (bytes_eq y x)) ∙ e)
 
 -- a document has at most one text of a single kind
 one_text : (kind : TextKind) (doc : Doc) (t u : List ℕ) → is_single kind ≡ true → is_one_of bytes_eq t (texts_of kind doc) ≡ true

@@ -1,17 +1,15 @@
 -- Documents that are put under their texts, and removed again.
-use Rattle.std.proofs.Common.{◌≡◌, ◌≢◌, ℕ, zero, suc, ◌+◌, ◌<◌, Bool, true, false, List, [], ◌∷◌, ◌++◌, length, take, get_or}
+use Rattle.std.proofs.Common.{◌≡◌, ◌≢◌, ℕ, zero, suc, ◌+◌, ◌<◌, Bool, false, List, [], ◌∷◌, ◌++◌, length, take, get_or}
 use Rattle.std.proofs.Common.{refl, sym, ap, ◌∙◌, subst, inl, inr, arith, Result, Ok, Err, OnErr, nat_eq, nat_lt, if◌then◌else◌}
 use Rattle.std.proofs.Common.{set, replicate}
 use Rattle.std.specs.Str.{bytes_eq}
-use Rattle.std.specs.Cmp.{nat_eq_equiv}
-use Rattle.std.specs.Cmp.Lexicographic.{lists_equiv}
 use Rattle.std.proofs.Math.Seq.{take-length, take-append_seam}
-use Rattle.std.proofs.lemmas.Bool.{cases_Bool}
+use Rattle.std.proofs.lemmas.Bool.{cases_Bool, eqb-true}
 use Rattle.std.proofs.lemmas.List.{get_or-set_same, get_or-set_other}
-use Rattle.std.proofs.lemmas.Slice.Eq.{bytes_eq-Decides}
 use Rattle.tap_rows.specs.declared.rows.Doc.{Doc}
 use Rattle.tap_rows.specs.declared.fields.Fields.{Fields}
 use Rattle.tap_rows.specs.Fields.{fields}
+use Rattle.tap_rows.proofs.Tests.{bytes_same}
 use Rattle.row_index.specs.declared.doc_texts.DocTexts.{DocTexts}
 use Rattle.row_index.specs.declared.text_kind.TextKind.{TextKind}
 use Rattle.row_index.specs.declared.text_kind.TextKind.TheVariants.{MsgId, Parent, Sender, Subject, Reference, To, Cc, Newsgroups, Word}
@@ -31,12 +29,6 @@ pub wholly : (keys : List (List ℕ)) (p : ℕ) (es fs : List (List ℕ × List 
     → IsPartlyPosted keys p es fs
 wholly keys p es fs e = (length keys, e ∙ ap (λ k. posted_all bytes_eq k p es) (sym (take-length keys)))
 
-pub same_text : (x y : List ℕ) → bytes_eq x y ≡ true → x ≡ y
-same_text x y h = (bytes_eq-Decides x y).0 h
-
-pub same_bytes : (x : List ℕ) → bytes_eq x x ≡ true
-same_bytes x = (lists_equiv nat_eq_equiv).refl x
-
 -- the kinds and their places
 
 pub every_kind : (P : ℕ → TextKind → Type 0) → ((k : ℕ) → k < 9 → P k (kind_at k)) → (kind : TextKind) → P (kind_place kind) kind
@@ -50,9 +42,6 @@ every_kind P h Cc = h 6 (omega arith)
 every_kind P h Newsgroups = h 7 (omega arith)
 every_kind P h Word = h 8 (omega arith)
 
-same_place : (k n : ℕ) → nat_eq k n ≡ true → k ≡ n
-same_place k n h = grind (arith, h)
-
 other_place : (k n : ℕ) → nat_eq k n ≡ false → k ≢ n
 other_place k n h = λ e. grind (arith, h, e)
 
@@ -63,7 +52,7 @@ module _ {A : Type 0} where
   at_set xs i k v d h =
       elim (cases_Bool (nat_eq k i)) [
         | inl b ↦
-            let e = same_place k i b in
+            let e = eqb-true k i b in
             ap (λ j. get_or (set xs i v) j d) e ∙ get_or-set_same xs i v d h ∙ sym (ap (λ z. if z then v else get_or xs k d) b)
         | inr b ↦ get_or-set_other xs i k v d (other_place k i b) ∙ sym (ap (λ z. if z then v else get_or xs k d) b)
       ]
@@ -119,7 +108,7 @@ module _ (f : Fields) (p : ℕ) (old : DocTexts) where
               here ∙ ap (either v (list_at k now)) b ∙ part
                   ∙ ap (posted_all bytes_eq (take m (field_texts (kind_at n) f)) p)
                   (yet_old (posting f p) old now next n v within so_far is)
-                  ∙ ap (λ j. posted_all bytes_eq (take m (field_texts (kind_at j) f)) p (list_at j old)) (sym (same_place k n b)),
+                  ∙ ap (λ j. posted_all bytes_eq (take m (field_texts (kind_at j) f)) p (list_at j old)) (sym (eqb-true k n b)),
             )
             | inr b ↦
                 let was : list_at k next ≡ (if nat_lt k n then posting f p k (list_at k old) else list_at k old) =
@@ -152,18 +141,18 @@ no_texts texts e = λ kind key.
 texts_more : (docs : List Doc) (doc : Doc) (old new : DocTexts) → Numbered doc_number 1 docs → doc.num.0 ≡ length docs + 1
     → IsPosted (fields doc) (length docs) old new → TextPosts docs old → TextPosts (docs ++ doc ∷ []) new
 texts_more docs doc old new h e f t = λ kind.
-    posts_more bytes_eq same_text (texts_of kind) doc_number docs doc (list_of kind old) (list_of kind new) h e (f kind) (t kind)
+    posts_more bytes_eq bytes_same (texts_of kind) doc_number docs doc (list_of kind old) (list_of kind new) h e (f kind) (t kind)
 
 pub texts_cut : (docs : List Doc) (len : ℕ) (old new : DocTexts) → Numbered doc_number 1 docs → IsCut len old new → TextPosts docs old
     → TextPosts (take len docs) new
 texts_cut docs len old new h f t = λ kind.
-    posts_cut bytes_eq same_text (texts_of kind) doc_number docs len (list_of kind old) (list_of kind new) h (f kind) (t kind)
+    posts_cut bytes_eq bytes_same (texts_of kind) doc_number docs len (list_of kind old) (list_of kind new) h (f kind) (t kind)
 
 texts_undone : (docs : List Doc) (doc : Doc) (old part new : DocTexts) → Numbered doc_number 1 docs
     → IsPartly (fields doc) (length docs) old part → IsCut (length docs) part new → TextPosts docs old → TextPosts docs new
 texts_undone docs doc old part new h f u t = λ kind.
-    posts_undone bytes_eq same_text (texts_of kind) doc_number docs doc (f kind).0 (list_of kind old) (list_of kind part) (list_of kind new)
-    h (f kind).1 (u kind) (t kind)
+    posts_undone bytes_eq bytes_same (texts_of kind) doc_number docs doc (f kind).0 (list_of kind old) (list_of kind part)
+    (list_of kind new) h (f kind).1 (u kind) (t kind)
 
 -- the same as the calls put it
 

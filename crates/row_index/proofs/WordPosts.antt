@@ -2,11 +2,12 @@
 use Rattle.std.proofs.Common.{◌≡◌, ◌∙◌, refl, sym, ap, subst, ℕ, zero, suc, Bool, true, false, List, [], ◌∷◌, ◌++◌, length, take, drop}
 use Rattle.std.proofs.Common.{inl, inr, if◌then◌else◌, arith}
 use Rattle.std.proofs.Math.Seq.{take-append_seam}
-use Rattle.std.proofs.lemmas.Bool.{cases_Bool, true≢false}
+use Rattle.std.proofs.lemmas.Bool.{cases_Bool, true≢false, not-true, not-false}
 use Rattle.std.proofs.lemmas.List.{take-append-drop, append-nil, append_assoc}
 use Rattle.std.proofs.lemmas.List.Folds.{list_any-append}
 use Rattle.std.specs.Prelude.{◌||◌, not}
 use Rattle.std.specs.Str.{bytes_eq}
+use Rattle.tap_rows.proofs.Tests.{bytes_same, bytes_itself}
 use Rattle.tap_base.specs.Words.{has_text, with_new}
 use Rattle.tap_base.specs.FirstPlaces.{HoldSameTexts}
 use Rattle.tap_base.proofs.Added.{with_new-append}
@@ -14,7 +15,6 @@ use Rattle.tap_base.proofs.Missing.{missing, with_missing, absorbed, both_held}
 use Rattle.row_index.specs.Places.{under, posted, ends_with, with_place}
 use Rattle.row_index.specs.Posts.{posted_all, noted_then, IsPartlyPosted, IsFreePlace}
 use Rattle.row_index.proofs.PostLaws.{posted_onto, ends_put, put_new, under_posted_all}
-use Rattle.row_index.proofs.TextLaws.{same_text, same_bytes}
 
 -- is the place the last one under the text?
 abbrev is_put : List ℕ → ℕ → List (List ℕ × List ℕ) → Bool
@@ -33,7 +33,7 @@ alone p = grind arith
 
 -- it is there once it was put, and stays so
 put_there : (key : List ℕ) (p : ℕ) (es : List (List ℕ × List ℕ)) → is_put key p (posted bytes_eq key p es) ≡ true
-put_there key p [] = rw (same_bytes key) (alone p)
+put_there key p [] = rw (bytes_itself key) (alone p)
 put_there key p (e ∷ es) =
     elim (cases_Bool (bytes_eq key e.0)) [
       | inl b ↦ rw (b, b) (ends_again p e.1)
@@ -70,7 +70,7 @@ held_there [] key p es h = absurd (true≢false (sym h))
 held_there (x ∷ held) key p es h =
     elim (cases_Bool (bytes_eq key x)) [
       | inl b ↦
-          let same : key ≡ x = same_text key x b in
+          let same : key ≡ x = bytes_same key x b in
           still_all key held p (posted bytes_eq x p es) (ap (λ k. is_put k p (posted bytes_eq x p es)) same ∙ put_there x p es)
       | inr b ↦ held_there held key p (posted bytes_eq x p es) (rw b at h)
     ]
@@ -149,7 +149,7 @@ had_before front word place es fs free done last =
       | inl b ↦ b
       | inr b ↦
           let at : under bytes_eq word fs ≡ under bytes_eq word es = ap (under bytes_eq word) done
-          ∙ under_posted_all bytes_eq same_text word front place es ∙ rw b refl in
+          ∙ under_posted_all bytes_eq bytes_same word front place es ∙ rw b refl in
           absurd (true≢false (sym last ∙ ap (ends_with place) at ∙ free word))
     ]
 
@@ -179,15 +179,6 @@ adding_next words left left' before noted noted' word place es fs gs is next kep
           (adding_old words left left' before noted word place es fs gs is next b a)
       | inr b ↦ adding_new words left left' before noted noted' word place es fs gs is next (rw b at kept) a
     ]
-
--- what is noted, by what the look-up of a word returned
-not-true : (b : Bool) → not b ≡ true → b ≡ false
-not-true true e = absurd (true≢false (sym e))
-not-true false e = refl
-
-not-false : (b : Bool) → not b ≡ false → b ≡ true
-not-false true e = refl
-not-false false e = absurd (true≢false e)
 
 pub noted_new : (place : ℕ) (word key : List ℕ) (es : List (List ℕ × List ℕ)) (noted noted' : List (List ℕ)) (new : Bool) → key ≡ word
     → new ≡ not (ends_with place (under bytes_eq key es)) → new ≡ true → noted' ≡ noted ++ word ∷ []

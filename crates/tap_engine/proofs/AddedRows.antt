@@ -1,7 +1,9 @@
 -- What an index owns of the tables, and what is left of it.
 use Rattle.std.proofs.Common.{◌≡◌, ◌∙◌, sym, refl, ap, subst, arith, ℕ, zero, suc, ◌+◌, ◌<◌, ◌≤◌, List, [], ◌∷◌, ◌++◌, length, take}
-use Rattle.std.specs.Prelude.{◌≤ℤ◌, ◌&&◌, true, false, Bool, ℤ, drop, nat_le, slice_index_or}
+use Rattle.std.specs.Prelude.{◌≤ℤ◌, true, ℤ, drop, nat_le, slice_index_or}
 use Rattle.std.proofs.lemmas.List.{append_assoc, length-append}
+use Rattle.std.proofs.lemmas.Bool.{and_parts}
+use Rattle.tap_kept.proofs.NewLaws.{back-more}
 use Rattle.tap_rows.specs.declared.rows.Doc.{Doc}
 use Rattle.tap_rows.specs.declared.change.Change.TheVariants.{Docs}
 use Rattle.tap_rows.specs.Kept.{Each}
@@ -40,16 +42,11 @@ push-rows old now new m texts text i lt is is-new rows =
     ∙ ap (λ k. after (after now (Docs (doc ∷ []))) (Docs (docs_from (k + 1) m rest))) (sym (length-append now.docs (doc ∷ [])))
     ∙ ap (λ t. after t (Docs (docs_from (length t.docs + 1) m rest))) (sym is-new)
 
-take-more : {A : Type 0} (n : ℕ) (xs ys : List A) → n ≤ length xs → take n (xs ++ ys) ≡ take n xs
-take-more zero xs ys le = refl
-take-more (suc n) [] ys le = absurd (omega (arith, le))
-take-more (suc n) (x ∷ xs) ys le = ap (λ l. x ∷ l) (take-more n xs ys (omega (arith, le)))
-
 -- those that were there before are unchanged
 pub push-back : (old now new : Tables) (docs : List Doc) (n : ℕ) → n ≤ length now.docs → new ≡ after now (Docs docs)
     → record now { docs = take n now.docs } ≡ old → record new { docs = take n new.docs } ≡ old
 push-back old now new docs n le is-new back = ap (λ (t : Tables). record t { docs = take n t.docs }) is-new
-    ∙ ap (λ l. record now { docs = l }) (take-more n now.docs docs le) ∙ back
+    ∙ ap (λ l. record now { docs = l }) (back-more n now.docs docs le) ∙ back
 
 pub push-count : (now new : Tables) (doc : Doc) (k i : ℕ) → new ≡ after now (Docs (doc ∷ [])) → length now.docs ≡ k + i
     → length new.docs ≡ k + (i + 1)
@@ -68,11 +65,6 @@ pub push-by : (now new : Tables) (m : ℤ) (doc : Doc) → new ≡ after now (Do
 push-by now new m doc is-new le each =
     subst (λ (t : Tables). Each (λ other. other.arrival ≤ℤ m) t.docs) (sym is-new) (each-more m now.docs doc each le)
 
-both-true : (a b : Bool) → (a && b) ≡ true → (a ≡ true) × (b ≡ true)
-both-true true true e = (refl, refl)
-both-true true false e = absurd cc
-both-true false b e = absurd cc
-
 nat-le : (a b : ℕ) → nat_le a b ≡ true → a ≤ b
 nat-le a b e = grind arith
 
@@ -80,7 +72,7 @@ nat-le a b e = grind arith
 pub push-short : (texts : List (List ℕ)) (text : List ℕ) (i : ℕ) → i < length texts → text ≡ slice_index_or texts i text
     → are_short (drop i texts) ≡ true → (length text ≤ 1048576) × (are_short (drop (i + 1) texts) ≡ true)
 push-short texts text i lt is short =
-    let both = both-true (nat_le (length text) 1048576) (are_short (drop (i + 1) texts))
+    let both = and_parts (nat_le (length text) 1048576) (are_short (drop (i + 1) texts))
     (sym (ap are_short (item-at i texts text lt is)) ∙ short) in
     (nat-le (length text) 1048576 both.0, both.1)
 

@@ -1,7 +1,7 @@
 -- What the engine finds of a command's checks is what its verdict says.
-use Rattle.std.proofs.Common.{◌≡◌, ◌∙◌, sym, refl, ap, subst, ℕ, suc, List, [], ◌∷◌, ◌+◌, length, map, Option, Some, None, true, false, inl}
-use Rattle.std.proofs.Common.{inr, if◌then◌else◌}
-use Rattle.std.specs.Prelude.{ℤ, ◌≤ℤ◌, ◌⊎◌, ◌==◌, ◌||◌, nat_le, is_none, find, filter, Result, Ok, Err}
+use Rattle.std.proofs.Common.{◌≡◌, ◌∙◌, sym, refl, ap, subst, ℕ, suc, List, [], ◌∷◌, ◌+◌, length, map, Option, Some, None, inl}
+use Rattle.std.proofs.Common.{inr}
+use Rattle.std.specs.Prelude.{ℤ, ◌≤ℤ◌, ◌⊎◌, is_none, find, filter}
 use Rattle.std.specs.Option.{option_map, option_or}
 use Rattle.std.specs.Str.{bytes_eq}
 use Rattle.std.proofs.lemmas.Bool.{cases_Bool}
@@ -9,23 +9,18 @@ use Rattle.std.proofs.lemmas.List.{length-map}
 use Rattle.tap_rows.specs.declared.tables.Tables.{Tables}
 use Rattle.tap_rows.specs.declared.rows.QueryRow.{QueryRow}
 use Rattle.tap_rows.specs.declared.results.Hit.{Hit}
-use Rattle.tap_base.specs.Words.{has_text}
-use Rattle.tql_core.specs.Condition.{Condition}
-use Rattle.tql_text.specs.declared.fault.TextFault.{TextFault}
 use Rattle.tql_text.specs.declared.fault.TextFault.TheVariants as T
-use Rattle.tql_text.specs.Texts.{condition_of}
 use Rattle.tap_model.proofs.AnswerLaws.{some-none, find-in, truth-of-second}
 use Rattle.tap_kept.proofs.PlanLaws.{covered-each}
 use Rattle.tap_engine.proofs.ReadyLaws.{some-moment}
 use Rattle.tap_model.proofs.SoundLaws.{sound-asked}
 use Rattle.tap_model.proofs.WindowLaws.{run-of-sound}
-use Rattle.tap_rows.specs.Kept.{In, Each}
+use Rattle.tap_rows.specs.Kept.{In}
 use Rattle.script_lang.specs.declared.refusal.Refusal.{Refusal}
-use Rattle.script_lang.specs.declared.refusal.Refusal.TheVariants.{NoQuery, NoMoment, Taken, Memory, Limit}
-use Rattle.script_lang.specs.declared.refusal.LimitName.{LimitName}
-use Rattle.script_lang.specs.declared.refusal.LimitName.TheVariants.{Queries, AllQueries, Users, Store, Runs, Picks}
+use Rattle.script_lang.specs.declared.refusal.Refusal.TheVariants.{NoQuery, NoMoment, Taken, Memory}
+use Rattle.script_lang.specs.declared.refusal.LimitName.TheVariants.{Runs, Picks}
 use Rattle.script_lang.specs.declared.command.Command.TheVariants.{Define, Run, BoxOf}
-use Rattle.tap_model.specs.Limits.{user_query_limit, query_limit, user_limit, store_limit, run_limit, pick_limit}
+use Rattle.tap_model.specs.Limits.{run_limit, pick_limit}
 use Rattle.tap_model.specs.declared.session.Session.{Session}
 use Rattle.tap_engine.specs.declared.engine.Engine.{Engine}
 use Rattle.tap_model.specs.Sessions.{or_zero, user_of, moment_or_zero}
@@ -51,6 +46,7 @@ use Rattle.tap_rows.proofs.KeptLaws.{box-is}
 use Rattle.script_lang.specs.declared.reply.Reply.TheVariants.{Defined, BoxOf as Boxed}
 use Rattle.tap_rows.specs.declared.change.Change.{Change}
 use Rattle.tap_rows.specs.declared.change.Change.TheVariants.{OneQuery}
+use Rattle.tap_rows.proofs.LaterLaws.{each-in}
 
 named-find : (t : Tables) (owner name : List ℕ) (qs : List QueryRow) → find (λ kept. is_query_of owner name kept.row)
     (map (cached_query t) qs) ≡ option_map (cached_query t) (find (is_query_of owner name) qs)
@@ -179,11 +175,6 @@ pub box-refuses : (e : Engine) (name : List ℕ) (refusal : Refusal) → Refused
     → Refuses refusal (BoxOf name) e.session t
 box-refuses e name refusal
     by t represents = refused-after _ _ refusal (subst (λ v. RefusedBy v refusal) (box-verdict e t name represents) by)
-
-each-in : {A : Type 0} (P : A → Type 0) (xs : List A) (x : A) → Each P xs → In x xs → P x
-each-in P [] x each has = absurd has
-each-in P (y ∷ ys) x each (inl e) = subst P (sym e) each.0
-each-in P (y ∷ ys) x each (inr has) = each-in P ys x each.1 has
 
 -- what a run of a query delivers, by what is in memory
 pub hits-of-query : (e : Engine) (t : Tables) (q : QueryRow) → Represents e t → IsSound t e.session → In q t.queries

@@ -1,8 +1,8 @@
 -- What well formed tables say of their rows, as an engine needs it.
-use Rattle.std.proofs.Common.{not, ◌≡◌, refl, arith, ℕ, ◌+◌, ◌≤◌, ℤ, pos, Bool, true, false, Option, Some, None, List, [], ◌∷◌, ◌++◌}
+use Rattle.std.proofs.Common.{◌≡◌, arith, ℕ, ◌+◌, ◌≤◌, ℤ, pos, true, Option, Some, None, List, [], ◌∷◌, ◌++◌}
 use Rattle.std.proofs.Common.{length}
 use Rattle.std.specs.Prelude.{◌≤ℤ◌, int_le}
-use Rattle.std.proofs.lemmas.Bool.{and_parts, false≢true}
+use Rattle.std.proofs.lemmas.Bool.{and_parts, eqb-true, not-true}
 use Rattle.std.proofs.lemmas.Int.{ints}
 use Rattle.tap_rows.specs.declared.tables.Tables.{Tables}
 use Rattle.tap_rows.specs.declared.rows.Doc.{Doc}
@@ -13,7 +13,7 @@ use Rattle.row_index.specs.Orders.{doc_number, doc_arrival, note_number, note_ar
 use Rattle.tap_rows.specs.Kept.{Each, HasRun, RunsFrom, QueriesFrom}
 use Rattle.tap_rows.specs.WellFormed.{docs_stand, doc_stands, note_stands, notes_stand, pick_stands, picks_stand, is_well_formed}
 use Rattle.tap_rows.proofs.LaterLaws.{each-map}
-use Rattle.tap_model.proofs.FormedRows.{equal, at-most, follows, one-of, placed}
+use Rattle.tap_model.proofs.FormedRows.{at-most, follows, one-of, placed}
 use Rattle.tap_kept.specs.Starting.{IsRowNumber, AreInOrder, FollowInOrder, PicksAreDistinct}
 use Rattle.tap_base.specs.Numbers.{IsMoment}
 
@@ -27,7 +27,7 @@ docs-standing place low (doc ∷ docs) from e =
     let moment = follows low doc.arrival here.1 in
     let above : pos 0 ≤ℤ doc.arrival = omega (arith, ints, moment.0, from) in
     let rest = docs-standing (place + 1) doc.arrival docs above both.1 in
-    ((equal doc.num.0 place here.0, moment.0, (above, moment.1), rest.0), (at-most (length doc.text) 1048576 this.1, rest.1))
+    ((eqb-true doc.num.0 place here.0, moment.0, (above, moment.1), rest.0), (at-most (length doc.text) 1048576 this.1, rest.1))
 
 -- the number of one of that many rows
 within : {num count : ℕ} → (1 ≤ num) × (num ≤ count) → IsRowNumber num count
@@ -45,14 +45,9 @@ notes-standing docs place low (note ∷ notes) from e =
     let moment = follows low note.arrival here.1 in
     let above : pos 0 ≤ℤ note.arrival = omega (arith, ints, moment.0, from) in
     let rest = notes-standing docs (place + 1) note.arrival notes above both.1 in (
-      (equal note.num.0 place here.0, moment.0, (above, moment.1), rest.0),
+      (eqb-true note.num.0 place here.0, moment.0, (above, moment.1), rest.0),
       (within (one-of (λ doc. int_le doc.arrival note.arrival) note.doc.0 docs this.1), rest.1),
     )
-
--- no query picks a document twice
-not-true : (b : Bool) → not b ≡ true → b ≡ false
-not-true true e = absurd (false≢true e)
-not-true false e = refl
 
 picks-once : (runs : List RunRow) (docs : List Doc) (earlier : List Pick) (place : ℕ) (before : Option Pick) (picks : List Pick)
     → picks_stand runs docs earlier place before picks ≡ true → PicksAreDistinct earlier picks

@@ -1,27 +1,27 @@
 -- Messages: why a mailbox file is refused, and what the engine represents after documents were added.
 use Rattle.std.proofs.Common.{◌≡◌, ◌∙◌, sym, refl, ap, subst, arith, ℕ, ℤ, List, [], ◌∷◌, ◌+◌, ◌*◌, ◌≤◌, suc, length, Bool, true, false}
-use Rattle.std.proofs.Common.{Option, Some, None, inr}
+use Rattle.std.proofs.Common.{Option, Some, None}
 use Rattle.std.specs.Prelude.{◌&&◌, ◌==◌, nat_le, sum_by}
 use Rattle.std.specs.Option.{option_or}
 use Rattle.std.proofs.lemmas.List.{append-nil}
 use Rattle.std.proofs.lemmas.List.Sums.{sum_by-append, sum_by-cons}
+use Rattle.std.proofs.lemmas.Bool.{and_parts}
 use Rattle.tap_rows.specs.declared.tables.Tables.{Tables}
 use Rattle.tap_rows.specs.declared.rows.Doc.{Doc}
 use Rattle.tap_rows.specs.declared.change.Change.{Change}
 use Rattle.tap_rows.specs.declared.change.Change.TheVariants.{Docs}
 use Rattle.tap_rows.specs.Tables.{after}
 use Rattle.mail_lines.specs.declared.block.Block.{Block}
-use Rattle.mail_lines.specs.declared.block.Block.TheVariants.{Whole, Long}
 use Rattle.script_lang.specs.declared.refusal.Refusal.{Refusal}
-use Rattle.script_lang.specs.declared.refusal.Refusal.TheVariants.{NoMoment, Memory, Limit}
-use Rattle.script_lang.specs.declared.refusal.LimitName.TheVariants.{Message, Documents, Store}
+use Rattle.script_lang.specs.declared.refusal.Refusal.TheVariants.{NoMoment}
+use Rattle.script_lang.specs.declared.refusal.LimitName.TheVariants.{Documents, Store}
 use Rattle.script_lang.specs.declared.command.Command.TheVariants.{Mail, Mbox}
 use Rattle.script_lang.specs.declared.reply.Reply.TheVariants.{OneDoc, Docs as DocsAdded}
 use Rattle.tap_model.specs.Limits.{document_limit, store_limit}
 use Rattle.tap_model.specs.declared.session.Session.{Session}
 use Rattle.tap_model.specs.Sessions.{moment_or_zero}
 use Rattle.tap_model.specs.Limits.{limit_refusal}
-use Rattle.tap_model.specs.Verdicts.{first_refusal, verdict, missing, refuse_unless, no_moment, messages_of, are_short, long_message}
+use Rattle.tap_model.specs.Verdicts.{first_refusal, verdict, missing, no_moment, messages_of, are_short, long_message}
 use Rattle.tap_model.specs.Verdicts.{long_block, bytes_of_all, block_text}
 use Rattle.tap_model.specs.Replies.{docs_from, next_docs, some_docs, tables_after}
 use Rattle.tap_model.specs.Stories.{Refuses}
@@ -61,16 +61,11 @@ pub mbox-moment : (e : Engine) (block : Block) → mbox_refusal e block ≡ None
 mbox-moment e block none no_m =
     some-none NoMoment (sym (ap (λ m. option_or (missing NoMoment m) (mbox_bounds e block (messages_of block))) no_m) ∙ none)
 
-both-true : (a b : Bool) → (a && b) ≡ true → (a ≡ true) × (b ≡ true)
-both-true true true e = (refl, refl)
-both-true true false e = absurd cc
-both-true false b e = absurd cc
-
 -- short messages have few bytes
 pub few-bytes : (messages : List (List ℕ)) → are_short messages ≡ true → bytes_of_all messages ≤ 1048576 * length messages
 few-bytes [] e = omega arith
 few-bytes (message ∷ messages) e =
-    let both = both-true (nat_le (length message) 1048576) (are_short messages) e in
+    let both = and_parts (nat_le (length message) 1048576) (are_short messages) e in
     let rest = few-bytes messages both.1 in
     rw (sum_by-cons length message messages)
     (step (length message) (bytes_of_all messages) (length messages) (le (length message) both.0) rest)

@@ -1,36 +1,20 @@
 -- How many different owners there are once there is one more row.
-use Rattle.std.proofs.Common.{◌≡◌, ◌∙◌, sym, refl, ap, subst, rules, ℕ, List, [], ◌∷◌, ◌++◌, ◌+◌, length, Bool, true, false, if◌then◌else◌}
+use Rattle.std.proofs.Common.{◌≡◌, ◌∙◌, sym, refl, ap, subst, ℕ, List, [], ◌∷◌, ◌++◌, ◌+◌, length, Bool, true, false, if◌then◌else◌}
 use Rattle.std.specs.Prelude.{◌||◌}
 use Rattle.std.specs.Str.{bytes_eq}
 use Rattle.std.proofs.lemmas.List.{length-append}
 use Rattle.std.proofs.lemmas.List.Folds.{list_any-append}
-use Rattle.std.proofs.lemmas.Slice.Eq.{bytes_eq-Decides}
+use Rattle.tap_rows.proofs.Tests.{bytes_same, bytes_flip}
 use Rattle.tap_base.specs.Words.{has_text}
 use Rattle.tap_model.specs.Limits.{different}
+use Rattle.tap_model.proofs.WindowLaws.{or-swap}
 use Rattle.tap_kept.specs.Keeping.{with_owner}
-
-same-text : (x y : List ℕ) → bytes_eq x y ≡ true → x ≡ y
-same-text x y e = search (rules, bytes_eq-Decides)
-
-or-middle : (a b c : Bool) → (a || (b || c)) ≡ (b || (a || c))
-or-middle true true c = refl
-or-middle true false c = refl
-or-middle false true c = refl
-or-middle false false c = refl
 
 -- one more text is one more that may be looked for
 pub holds-in : (a b : List (List ℕ)) (u v : List ℕ) → has_text (a ++ u ∷ b) v ≡ (bytes_eq v u || has_text (a ++ b) v)
 holds-in a b u v =
-    list_any-append (λ other. bytes_eq v other) a (u ∷ b) ∙ or-middle (has_text a v) (bytes_eq v u) (has_text b v)
+    list_any-append (λ other. bytes_eq v other) a (u ∷ b) ∙ or-swap (has_text a v) (bytes_eq v u) (has_text b v)
     ∙ ap (λ x. bytes_eq v u || x) (sym (list_any-append (λ other. bytes_eq v other) a b))
-
-same-both : (x y : List ℕ) → bytes_eq x y ≡ bytes_eq y x
-same-both x y = go (bytes_eq x y) refl (bytes_eq y x) refl where
-  go : (a : Bool) → bytes_eq x y ≡ a → (b : Bool) → bytes_eq y x ≡ b → bytes_eq x y ≡ bytes_eq y x
-  go true e true f = e ∙ sym f
-  go false e false f = e ∙ sym f
-  go true e false f = subst (λ z. bytes_eq x z ≡ bytes_eq z x) (same-text x y e) refl
-  go false e true f = subst (λ z. bytes_eq z y ≡ bytes_eq y z) (same-text y x f) refl
 
 -- two texts that count or don't, in either order
 either-first : (x u : Bool) (d : ℕ) → (if x then (if u then d else d + 1) else (if u then d else d + 1) + 1)
@@ -46,10 +30,10 @@ different-step : (x u : List ℕ) (a b : List (List ℕ))
     ≡ (if bytes_eq u x || has_text (a ++ b) u then (if has_text (a ++ b) x then different (a ++ b) else different (a ++ b) + 1)
     else (if has_text (a ++ b) x then different (a ++ b) else different (a ++ b) + 1) + 1)
 different-step x u a b rest true e =
-    rw (e, same-both u x ∙ e, rest)
-    (ap (λ z. if has_text (a ++ b) z then different (a ++ b) else different (a ++ b) + 1) (sym (same-text x u e)))
+    rw (e, bytes_flip u x ∙ e, rest)
+    (ap (λ z. if has_text (a ++ b) z then different (a ++ b) else different (a ++ b) + 1) (sym (bytes_same x u e)))
 different-step x u a b rest false e =
-    rw (e, same-both u x ∙ e, rest) (either-first (has_text (a ++ b) x) (has_text (a ++ b) u) (different (a ++ b)))
+    rw (e, bytes_flip u x ∙ e, rest) (either-first (has_text (a ++ b) x) (has_text (a ++ b) u) (different (a ++ b)))
 
 -- one more text counts unless it is there
 pub different-in : (a b : List (List ℕ)) (u : List ℕ)
@@ -79,7 +63,7 @@ holds-with owners u v false e = list_any-append (λ other. bytes_eq v other) own
       swapped false false = refl
 holds-with owners u v true e = go (bytes_eq v u) refl where
   go : (s : Bool) → bytes_eq v u ≡ s → has_text owners v ≡ (bytes_eq v u || has_text owners v)
-  go true f = rw f (subst (λ z. has_text owners z ≡ true) (sym (same-text v u f)) e)
+  go true f = rw f (subst (λ z. has_text owners z ≡ true) (sym (bytes_same v u f)) e)
   go false f = rw f refl
 
 -- a user owns a query or a filter by the owners in memory if and only if by the rows

@@ -1,13 +1,11 @@
 -- The engine stays ready for its next step.
 use Rattle.std.proofs.Common.{◌≡◌, ◌∙◌, sym, refl, ap, subst, inl, inr, arith, ℕ, zero, suc, ◌+◌, ◌-◌, ◌≤◌, ◌<◌, ℤ, List, [], ◌∷◌}
 use Rattle.std.proofs.Common.{◌++◌, length, Bool, true, false, Option, Some, None, if◌then◌else◌}
-use Rattle.std.specs.Prelude.{◌≤ℤ◌, int_le, find, slice_index_or, slice_set}
+use Rattle.std.specs.Prelude.{◌≤ℤ◌, find, slice_index_or, slice_set}
 use Rattle.std.specs.Option.{option_or}
 use Rattle.std.proofs.lemmas.Int.{ints}
 use Rattle.std.proofs.Math.Seq.{take-append_seam}
 use Rattle.tap_base.specs.declared.numbers.QueryNum.{QueryNum}
-use Rattle.tap_base.specs.Numbers.{moment_of}
-use Rattle.tql_types.proofs.Ranges.{InRange, moment-range}
 use Rattle.tap_rows.specs.declared.rows.QueryRow.{QueryRow}
 use Rattle.tap_rows.specs.declared.results.Entry.{Entry}
 use Rattle.tap_rows.specs.declared.rows.Note.{Note}
@@ -19,13 +17,13 @@ use Rattle.query_eval.specs.Hits.{HitsWithRoom}
 use Rattle.query_eval.specs.BoxFronts.{AreInBox, AddsFronts}
 use Rattle.vote_scores.specs.Tally.{Vote}
 use Rattle.tap_rows.specs.Kept.{Each, In}
-use Rattle.script_lang.specs.declared.refusal.Refusal.TheVariants.{Backwards}
 use Rattle.tap_model.specs.Queries.{start_of}
 use Rattle.tap_rows.specs.WellFormed.{is_query_of}
+use Rattle.tap_rows.proofs.LaterLaws.{each-append}
 use Rattle.tap_model.specs.Replies.{docs_from}
 use Rattle.tap_model.specs.Sessions.{or_zero, moment_or_zero, user_of}
-use Rattle.tap_model.specs.Verdicts.{is_back, refuse_unless}
-use Rattle.tap_model.proofs.AnswerLaws.{some-none}
+use Rattle.tap_model.specs.Verdicts.{is_back}
+use Rattle.tap_model.proofs.HeldLaws.{not-back}
 use Rattle.tap_kept.specs.declared.cached_query.CachedQuery.{CachedQuery}
 use Rattle.tap_engine.specs.declared.engine.Engine.{Engine}
 use Rattle.tap_engine.specs.declared.run.Due.{Due}
@@ -198,10 +196,6 @@ numbers-from : (n num : ℕ) (moment : ℤ) (texts : List (List ℕ)) → n < nu
 numbers-from n num moment [] lt = tt
 numbers-from n num moment (text ∷ texts) lt = (lt, numbers-from n (num + 1) moment texts (omega (arith, lt)))
 
-each-both : {A : Type 0} (P : A → Type 0) (xs ys : List A) → Each P xs → Each P ys → Each P (xs ++ ys)
-each-both P [] ys left right = right
-each-both P (x ∷ xs) ys left right = (left.0, each-both P xs ys left.1 right)
-
 -- the rows arrived by the session's moment
 pub rows-by : {A : Type 0} (f : A → ℤ) (e : Engine) (rows : List A) → RowsBy f (option_or e.session.moment e.greatest) rows
     → (e.session.moment ≡ None → ⊥) → Each (λ row. f row ≤ℤ moment_or_zero e.session) rows
@@ -225,7 +219,7 @@ pub ready-docs : (e : Engine) (h : HitsWithRoom) (texts : List (List ℕ)) (byte
     { index = after e.index (Docs (docs_from (length e.index.docs + 1) (moment_or_zero e.session) texts)); hits = h; bytes = bytes })
 ready-docs e h texts bytes ready there room fronts = record {
   docs = by-rows doc_arrival e (e.index.docs ++ docs_from (length e.index.docs + 1) (moment_or_zero e.session) texts) there
-      (each-both (λ doc. doc.arrival ≤ℤ moment_or_zero e.session) e.index.docs _ (rows-by doc_arrival e e.index.docs ready.docs there)
+      (each-append (λ doc. doc.arrival ≤ℤ moment_or_zero e.session) e.index.docs _ (rows-by doc_arrival e e.index.docs ready.docs there)
       (each-from (length e.index.docs + 1) (moment_or_zero e.session) texts));
   notes = ready.notes;
   queries = ready.queries;
@@ -243,20 +237,13 @@ pub ready-note : (e : Engine) (note : Note) (votes : List Vote) (bytes : ℕ) �
     → IsReady (record e { index = after e.index (OneNote note); votes = votes; bytes = bytes })
 ready-note e note votes bytes ready at there = record {
   docs = ready.docs;
-  notes = by-rows note_arrival e (e.index.notes ++ note ∷ []) there (each-both (λ note. note.arrival ≤ℤ moment_or_zero e.session)
+  notes = by-rows note_arrival e (e.index.notes ++ note ∷ []) there (each-append (λ note. note.arrival ≤ℤ moment_or_zero e.session)
       e.index.notes (note ∷ []) (rows-by note_arrival e e.index.notes ready.notes there) (omega (arith, ints, at), tt));
   queries = ready.queries;
   moment = ready.moment;
   room = ready.room;
   fronts = ready.fronts;
 }
-
--- a second that isn't refused is not below the last one
-not-back : (last second : ℤ) → is_back (Some last) (Some second) ≡ None → last ≤ℤ second
-not-back last second none = go (int_le last second) refl where
-  go : (b : Bool) → int_le last second ≡ b → last ≤ℤ second
-  go true y = grind (arith, ints)
-  go false n = absurd (some-none (Backwards last) (sym (ap (λ b. refuse_unless b (Backwards last)) n) ∙ none))
 
 each-later : {A : Type 0} (f : A → ℤ) (m n : ℤ) (rows : List A) → m ≤ℤ n → Each (λ row. f row ≤ℤ m) rows → Each (λ row. f row ≤ℤ n) rows
 each-later f m n [] le each = tt
@@ -278,9 +265,6 @@ ready-at e second ready range none = record {
   room = ready.room;
   fronts = ready.fronts;
 }
-
-pub moment-in-range : (text : List ℕ) (m : ℤ) → moment_of text ≡ Some m → IsMoment m
-moment-in-range text m e = subst InRange e (moment-range text)
 
 -- the present moment of a session that has one
 pub moment_or_zero-moment : (e : Engine) → IsReady e → (e.session.moment ≡ None → ⊥) → IsMoment (moment_or_zero e.session)

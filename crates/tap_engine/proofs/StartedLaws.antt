@@ -168,7 +168,7 @@ ready-start e t is formed = record {
 }
 
 -- the texts of filters of tables that a session may begin with can be read
-none-unread : (filters : List FilterRow) → Each (λ filter. filter_fault filter.source ≡ None) filters → first_unread filters ≡ None
+pub none-unread : (filters : List FilterRow) → Each (λ filter. filter_fault filter.source ≡ None) filters → first_unread filters ≡ None
 none-unread [] each = refl
 none-unread (filter ∷ filters) each = ap (λ fault. if is_some fault then Some filter.num else first_unread filters) each.0
     ∙ none-unread filters each.1

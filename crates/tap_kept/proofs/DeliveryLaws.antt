@@ -6,6 +6,7 @@ use Rattle.std.specs.List.{list_any}
 use Rattle.std.proofs.Math.Seq.{take-suc}
 use Rattle.std.proofs.lemmas.List.{length-append, map-append}
 use Rattle.std.proofs.lemmas.List.Elements.{filter-append}
+use Rattle.std.proofs.lemmas.Bool.{eqb-true, eq-eqb, ne_eqb}
 use Rattle.tap_rows.specs.declared.rows.QueryRow.{QueryRow}
 use Rattle.tap_rows.specs.declared.rows.RunRow.{RunRow}
 use Rattle.tap_rows.specs.declared.rows.Pick.{Pick}
@@ -24,15 +25,6 @@ use Rattle.tap_kept.specs.Starting.{rows_in, runs_alone, ordinal_in, with_entry,
 use Rattle.tap_kept.proofs.PlaceLaws.{placed, placed-set, runs-few, same-cached}
 use Rattle.tap_kept.proofs.NewLaws.{picked-in}
 use Rattle.tap_rows.specs.WellFormed.{picks_same}
-
-same-yes : (a b : ℕ) → a ≡ b → (a == b) ≡ true
-same-yes a b e = grind arith
-
-same-not : (a b : ℕ) → (a ≡ b → ⊥) → (a == b) ≡ false
-same-not a b n = grind arith
-
-equal : (a b : ℕ) → (a == b) ≡ true → a ≡ b
-equal a b e = grind arith
 
 unequal : (a b : ℕ) → (a == b) ≡ false → a ≡ b → ⊥
 unequal a b e = grind arith
@@ -57,7 +49,7 @@ there k num (row ∷ rows) from low high =
       within k num n high = omega (arith, high)
 
       go : (b : Bool) → (k == num) ≡ b → (suc k ≤ num → There rows num) → There (row ∷ rows) num
-      go true e rest = record { q = row; has = inl refl; at = from.0 ∙ equal k num e }
+      go true e rest = record { q = row; has = inl refl; at = from.0 ∙ eqb-true k num e }
       go false e rest = later (rest (above k num low (unequal k num e)))
 
 one-there : (num : ℕ) (rows : List QueryRow) → QueriesFrom 1 rows → IsRowNumber num (length rows) → There rows num
@@ -129,7 +121,7 @@ own-pick : (runs : List RunRow) (before : List Pick) (pick : Pick) (q : QueryRow
     → run ≡ run_ordinal pick.run pick.query.0 runs
     → cached_query (runs_alone runs (before ++ pick ∷ [])) q ≡ with_entry (entry-of pick run) (cached_query (runs_alone runs before) q)
 own-pick runs before pick q run of is =
-    let yes' = same-yes pick.query.0 q.num.0 of in
+    let yes' = eq-eqb pick.query.0 q.num.0 of in
     let one : picks_of q.num.0 (pick ∷ []) ≡ pick ∷ [] = rw yes' refl in
     same-cached q (last_or (start_of q) (run_moments q.num.0 runs)) (last_or (start_of q) (run_moments q.num.0 runs))
     (length (run_moments q.num.0 runs)) (length (run_moments q.num.0 runs)) (map (picked runs) (picks_of q.num.0 (before ++ pick ∷ [])))
@@ -146,7 +138,7 @@ other-pick runs before pick other differs =
     (length (run_moments other.num.0 runs)) (length (run_moments other.num.0 runs))
     (map (picked runs) (picks_of other.num.0 (before ++ pick ∷ []))) (map (picked runs) (picks_of other.num.0 before)) refl refl
     (ap (map (picked runs))
-    (filter-none (λ pick. pick.query.0 == other.num.0) before (pick ∷ []) (same-not pick.query.0 other.num.0 differs, tt)))
+    (filter-none (λ pick. pick.query.0 == other.num.0) before (pick ∷ []) (ne_eqb pick.query.0 other.num.0 differs, tt)))
 
 -- the ordinal that was noted for a run
 has-bounds : (k num query : ℕ) (runs : List RunRow) → RunsFrom k runs → HasRun num query runs → (k ≤ num) × (num < k + length runs)

@@ -1,7 +1,7 @@
 pub mod PlanLaws
 mod LeftLaws
 pub mod PlaceLaws
-mod NewLaws
+pub mod NewLaws
 mod DeliveryLaws
 mod VariableLaws
 pub mod TextLaws

@@ -3,7 +3,7 @@ use Rattle.std.proofs.Common.{◌≡◌, ◌∙◌, sym, refl, ap, subst, arith,
 use Rattle.std.proofs.Common.{◌∷◌, ◌++◌, map, take, length, Option, Some, None, inl, inr, nat_eq, append_assoc, if◌then◌else◌}
 use Rattle.std.specs.Prelude.{drop, ◌⊎◌, ◌==◌, ◌||◌, slice_index_or, filter}
 use Rattle.std.specs.List.{list_any, filter_map}
-use Rattle.std.proofs.lemmas.Bool.{false≢true}
+use Rattle.std.proofs.lemmas.Bool.{false≢true, ne_eqb}
 use Rattle.std.proofs.lemmas.List.{append-nil, length-append}
 use Rattle.tap_rows.specs.declared.rows.Doc.{Doc}
 use Rattle.tap_rows.specs.declared.rows.RunRow.{RunRow}
@@ -18,15 +18,13 @@ use Rattle.little_box.specs.Boxes.{is_in}
 use Rattle.tap_kept.specs.Keeping.{AreNew}
 use Rattle.tap_kept.specs.Starting.{PicksAreDistinct}
 use Rattle.probe_eval.specs.Nested.{was_seen}
+use Rattle.probe_eval.proofs.Ordered.{ordered_in, out_put}
 use Rattle.tap_rows.specs.WellFormed.{picks_same}
-
-same-no : (m n : ℕ) → (m ≡ n → ⊥) → nat_eq m n ≡ false
-same-no m n no' = grind arith
 
 -- one entry more, of another document
 in-more : (doc : ℕ) (entries : List Entry) (entry : Entry) → is_in doc entries ≡ false → (doc ≡ entry.doc.0 → ⊥)
     → is_in doc (entries ++ entry ∷ []) ≡ false
-in-more doc [] entry none other = rw (same-no doc entry.doc.0 other) refl
+in-more doc [] entry none other = rw (ne_eqb doc entry.doc.0 other) refl
 in-more doc (e ∷ entries) entry none other = go (nat_eq doc e.doc.0) refl (λ rest. in-more doc entries entry rest other) where
   go : (b : Bool) → nat_eq doc e.doc.0 ≡ b → (is_in doc entries ≡ false → is_in doc (entries ++ entry ∷ []) ≡ false)
       → is_in doc (e ∷ entries ++ entry ∷ []) ≡ false
@@ -43,17 +41,6 @@ new-next entries run hit hits new = go hits new.1 new.2 where
   go (other ∷ hits) apart new =
       (in-more other.doc.0 entries (entry_at run hit) new.0 (apart other (inl refl)), new.1, go hits (λ h has. apart h (inr has)) new.2)
 
--- a hit that is put among others
-put-out : (a h : Hit) (hits : List Hit) → In h (put_in a hits) → (h ≡ a) ⊎ In h hits
-put-out a h [] has = has
-put-out a h (b ∷ hits) has = go (is_before a b) refl (λ rest. put-out a h hits rest) where
-  go : (t : Bool) → is_before a b ≡ t → (In h (put_in a hits) → (h ≡ a) ⊎ In h hits) → (h ≡ a) ⊎ In h (b ∷ hits)
-  go true is rest = subst (λ t. In h (if t then a ∷ b ∷ hits else b ∷ put_in a hits)) is has
-  go false is rest = later (subst (λ t. In h (if t then a ∷ b ∷ hits else b ∷ put_in a hits)) is has) where
-    later : (h ≡ b) ⊎ In h (put_in a hits) → (h ≡ a) ⊎ In h (b ∷ hits)
-    later (inl e) = inr (inl e)
-    later (inr i) = elim (rest i) [ inl e ↦ inl e | inr j ↦ inr (inr j) ]
-
 put-new : (entries : List Entry) (a : Hit) (hits : List Hit) → is_in a.doc.0 entries ≡ false
     → ((other : Hit) → In other hits → other.doc.0 ≡ a.doc.0 → ⊥) → AreNew entries hits → AreNew entries (put_in a hits)
 put-new entries a [] unseen apart new = (unseen, apart, tt)
@@ -65,16 +52,12 @@ put-new entries a (b ∷ hits) unseen apart new =
 
       go : (t : Bool) → is_before a b ≡ t → AreNew entries (put_in a hits) → AreNew entries (if t then a ∷ b ∷ hits else b ∷ put_in a hits)
       go true is rest = (unseen, apart, new)
-      go false is rest = (new.0, (λ other has. away other (put-out a other hits has)), rest)
-
-order-out : (h : Hit) (hits : List Hit) → In h (hits_in_order hits) → In h hits
-order-out h [] has = has
-order-out h (x ∷ hits) has = elim (put-out x h (hits_in_order hits) has) [ inl e ↦ inl e | inr i ↦ inr (order-out h hits i) ]
+      go false is rest = (new.0, (λ other has. away other (out_put a other hits has)), rest)
 
 order-new : (entries : List Entry) (hits : List Hit) → AreNew entries hits → AreNew entries (hits_in_order hits)
 order-new entries [] new = tt
 order-new entries (hit ∷ hits) new =
-    put-new entries hit (hits_in_order hits) new.0 (λ other has. new.1 other (order-out other hits has)) (order-new entries hits new.2)
+    put-new entries hit (hits_in_order hits) new.0 (λ other has. new.1 other (ordered_in other hits has)) (order-new entries hits new.2)
 
 -- the hits of unseen documents
 module _ (entries : List Entry) (seen : Doc → Bool) (unseen : (doc : Doc) → seen doc ≡ false → is_in doc.num.0 entries ≡ false)

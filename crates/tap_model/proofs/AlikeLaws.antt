@@ -8,6 +8,7 @@ use Rattle.std.proofs.lemmas.List.{length-map}
 use Rattle.tap_base.specs.Numbers.{moment_of}
 use Rattle.tap_rows.specs.declared.tables.Tables.{Tables}
 use Rattle.tap_rows.specs.declared.rows.QueryRow.{QueryRow}
+use Rattle.tap_rows.proofs.Tests.{bytes_same}
 use Rattle.script_lang.specs.declared.command.Command.{Command}
 use Rattle.script_lang.specs.declared.command.Command.TheVariants.{At, AsUser, Mail, Mbox, AddNote, Define, Run, BoxOf, ListOf, Filter}
 use Rattle.script_lang.specs.declared.command.Command.TheVariants.{Explain, Ask, Wake, ScoresOf, DigestOf, Find, Bad}
@@ -26,7 +27,6 @@ use Rattle.tap_model.specs.Verdicts.{first_refusal, verdict, checks, lookup_chec
 use Rattle.tap_model.specs.Verdicts.{no_run, runs_found, block_text, delivers, messages_of, bytes_of_all}
 use Rattle.tap_model.specs.Privacy.{is_shared, is_user, concerns}
 use Rattle.tap_model.proofs.ViewLaws.{Core, core_of, cores, source_in, named-core}
-use Rattle.tap_model.proofs.CoreLaws.{same-text}
 use Rattle.tap_model.specs.Limits.{filter_limit, pick_limit, query_limit, run_limit, store_limit, user_limit, user_query_limit}
 
 -- the refusal, if there is one, is shared
@@ -101,7 +101,7 @@ pub own-user : (user : List ℕ) (giver : Option (List ℕ)) → is_user user gi
 own-user user None by = absurd (no by) where
   no : false ≡ true → ⊥
   no e = cc
-own-user user (Some name) by = ap Some (same-text name user by)
+own-user user (Some name) by = ap Some (bytes_same name user by)
 
 pub user-is : (user : List ℕ) (s : Session) → is_user user s.user ≡ true → user_of s ≡ user
 user-is user s by = ap or_empty (own-user user s.user by)

@@ -2,7 +2,6 @@
 use Rattle.std.proofs.Common.{◌≡◌, ◌∙◌, sym, ap, refl, subst, arith, ℕ, suc, ◌+◌, ◌≤◌, ◌<◌, ℤ, List, [], ◌∷◌, ◌++◌, length, map, Bool, true}
 use Rattle.std.proofs.Common.{false, Some, if◌then◌else◌}
 use Rattle.std.specs.Prelude.{◌&&◌, filter, find}
-use Rattle.std.proofs.Common.{rules}
 use Rattle.std.specs.Str.{bytes_eq}
 use Rattle.std.proofs.lemmas.List.{map-append}
 use Rattle.std.proofs.lemmas.List.Elements.{filter-append}
@@ -16,9 +15,9 @@ use Rattle.tap_rows.proofs.LaterLaws.{filter-none, each-map}
 use Rattle.tap_rows.proofs.PlaceLaws.{moments-new, moments-other, query-bounds, runs-none}
 use Rattle.tap_model.specs.Queries.{query_truth, start_of}
 use Rattle.tap_rows.specs.WellFormed.{is_query_of}
+use Rattle.tap_rows.proofs.Tests.{bytes_same}
 use Rattle.tap_model.specs.Filters.{last_filter}
 use Rattle.std.proofs.lemmas.List.{reverse-append}
-use Rattle.std.proofs.lemmas.Slice.Eq.{bytes_eq-Decides}
 use Rattle.tap_model.proofs.AnswerLaws.{find-in}
 use Rattle.tap_model.proofs.ViewLaws.{Core, core_of, cores}
 
@@ -69,12 +68,6 @@ cores-above user runs run k (q ∷ qs) from lt =
           (if b then q ∷ filter (λ query. bytes_eq query.owner user) qs else filter (λ query. bytes_eq query.owner user) qs)
       go true rest = join q.name q.source q.arrival _ _ _ _ same rest
       go false rest = rest
-
-pub same-text : (x y : List ℕ) → bytes_eq x y ≡ true → x ≡ y
-same-text x y e = search (rules, bytes_eq-Decides)
-
-pub self-text : (x : List ℕ) → bytes_eq x x ≡ true
-self-text x = search (rules, bytes_eq-Decides)
 
 -- the first core of this name with one run more
 abbrev pub with_run : List ℕ → ℤ → List Core → List Core
@@ -145,7 +138,7 @@ cores-run-other user owner name runs run k (x ∷ qs) q other from is of =
           else filter (λ query. bytes_eq query.owner user) qs) ≡ map (core_of runs)
           (if a then x ∷ filter (λ query. bytes_eq query.owner user) qs else filter (λ query. bytes_eq query.owner user) qs)
       go true e true f rest =
-          let named : x.owner ≡ owner = same-text x.owner owner (left (bytes_eq x.owner owner) (bytes_eq x.name name) f) in
+          let named : x.owner ≡ owner = bytes_same x.owner owner (left (bytes_eq x.owner owner) (bytes_eq x.name name) f) in
           absurd (both (sym e ∙ ap (λ o. bytes_eq o user) named ∙ other))
       go true e false f rest =
           let there = found false f in

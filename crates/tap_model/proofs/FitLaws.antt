@@ -18,6 +18,7 @@ use Rattle.tap_rows.specs.WellFormed.{may_follow, docs_stand, is_query_of}
 use Rattle.tap_rows.specs.Fits.{low_of, fits}
 use Rattle.tap_rows.specs.Kept.{Each, In, IsKept, IsBy}
 use Rattle.tap_rows.proofs.LaterLaws.{each-map}
+use Rattle.tap_rows.proofs.Tests.{le_yes}
 use Rattle.mail_lines.specs.declared.block.Block.{Block}
 use Rattle.mail_lines.specs.declared.block.Block.TheVariants.{Whole, Long}
 use Rattle.script_lang.specs.declared.command.Command.{Command}
@@ -79,11 +80,8 @@ at-moment_or_zero tables session now none =
 same-num : (n : ℕ) → (n == n) ≡ true
 same-num n = grind arith
 
-le-yes : (a b : ℤ) → a ≤ℤ b → int_le a b ≡ true
-le-yes a b le = grind (arith, ints)
-
 follows : (low m : ℤ) → low ≤ℤ m → m ≤ℤ pos LAST_MOMENT → may_follow low m ≡ true
-follows low m le last = and_from _ _ (le-yes low m le) (le-yes m (pos LAST_MOMENT) last)
+follows low m le last = and_from _ _ (le_yes low m le) (le_yes m (pos LAST_MOMENT) last)
 
 -- a row of the moment may follow the last of some that it is not below
 behind : {A : Type 0} (moment : A → ℤ) (m : ℤ) (rows : List A) → IsMoment m → Each (λ row. moment row ≤ℤ m) rows
@@ -135,7 +133,7 @@ note-fit doc kind value text session tables at is none user name there =
     let within = doc-within doc (length tables.docs) there in
     let arrived = row-within (λ doc. int_le doc.arrival (moment_or_zero session)) tables.docs doc within.0 within.1
     (each-map (λ doc. doc.arrival ≤ℤ moment_or_zero session) (λ doc. int_le doc.arrival (moment_or_zero session) ≡ true)
-    tables.docs (λ doc le. le-yes doc.arrival (moment_or_zero session) le) now.1.docs) in
+    tables.docs (λ doc le. le_yes doc.arrival (moment_or_zero session) le) now.1.docs) in
     and_from _ _ (and_from _ _ (and_from _ _ (and_from _ _ (same-num (length tables.notes + 1))
     (behind (λ note. note.arrival) (moment_or_zero session) tables.notes now.0 now.1.notes)) arrived) (named session.user is user))
     (name-is kind name)

@@ -2,7 +2,7 @@
 use Rattle.std.proofs.Common.{◌≡◌, ◌∙◌, sym, refl, ap, subst, arith, ℕ, zero, suc, ◌+◌, ◌-◌, ◌≤◌, ◌<◌, ℤ, pos, Bool, true, false, Option}
 use Rattle.std.proofs.Common.{Some, None, List, [], ◌∷◌, ◌++◌, length, inl, inr}
 use Rattle.std.specs.Prelude.{◌==◌, ◌⊎◌, ◌≤ℤ◌, nat_le, int_le, slice_get}
-use Rattle.std.proofs.lemmas.Bool.{and_parts, cases_Bool, false≢true}
+use Rattle.std.proofs.lemmas.Bool.{and_parts, cases_Bool, false≢true, eqb-true}
 use Rattle.std.proofs.lemmas.Int.{ints}
 use Rattle.std.proofs.lemmas.Option.{none-some, same_Some}
 use Rattle.tap_base.specs.declared.moments.TheConstants.{LAST_MOMENT}
@@ -17,9 +17,6 @@ use Rattle.tap_rows.specs.Results.{run_moments}
 use Rattle.tap_rows.specs.WellFormed.{may_follow, row_at, is_row, doc_stands, docs_stand, query_stands, queries_stand, was_defined}
 use Rattle.tap_rows.specs.WellFormed.{run_stands, runs_stand, is_picked, pick_stands, picks_stand, is_well_formed}
 use Rattle.tap_base.specs.Numbers.{IsMoment}
-
-pub equal : (a b : ℕ) → (a == b) ≡ true → a ≡ b
-equal a b e = grind arith
 
 pub at-most : (a b : ℕ) → nat_le a b ≡ true → a ≤ b
 at-most a b e = grind arith
@@ -40,7 +37,7 @@ docs-arrived place low (doc ∷ docs) e =
     let this = and_parts _ _ both.0 in
     let here = and_parts _ _ this.0 in (
       (follows low doc.arrival here.1).0,
-      equal doc.num.0 place here.0,
+      eqb-true doc.num.0 place here.0,
       subst (λ n. Arrived n doc.arrival docs) (next place) (docs-arrived (place + 1) doc.arrival docs both.1),
     )
 
@@ -76,7 +73,7 @@ queries-from earlier place low (query ∷ queries) from e =
     let moment = follows low query.arrival here.1 in
     let above = not-below low query.arrival from moment.0 in
     let rest = queries-from (earlier ++ query ∷ []) (place + 1) query.arrival queries above both.1 in
-    ((equal query.num.0 place here.0, subst (λ n. QueriesFrom n queries) (next place) rest.0), ((above, moment.1), rest.1))
+    ((eqb-true query.num.0 place here.0, subst (λ n. QueriesFrom n queries) (next place) rest.0), ((above, moment.1), rest.1))
 
 runs-from : (queries : List QueryRow) (place : ℕ) (low : ℤ) (runs : List RunRow) → pos 0 ≤ℤ low → runs_stand queries place low runs ≡ true
     → RunsFrom place runs × Each (λ run. (1 ≤ run.query.0) × (run.query.0 ≤ length queries)) runs × Each (λ run. IsMoment run.moment) runs
@@ -88,7 +85,7 @@ runs-from queries place low (run ∷ runs) from e =
     let moment = follows low run.moment here.1 in
     let above : pos 0 ≤ℤ run.moment = omega (arith, ints, moment.0, from) in
     let rest = runs-from queries (place + 1) run.moment runs above both.1 in (
-      (equal run.num place here.0, subst (λ n. RunsFrom n runs) (next place) rest.0),
+      (eqb-true run.num place here.0, subst (λ n. RunsFrom n runs) (next place) rest.0),
       (one-of (λ query. int_le query.arrival run.moment) run.query.0 queries this.1, rest.1),
       ((above, moment.1), rest.2),
     )
@@ -119,7 +116,7 @@ pick-has pick runs (Some run) None from e holds = absurd (false≢true holds)
 pick-has pick runs (Some run) (Some doc) from e holds =
     let this = and_parts _ _ holds in
     let here = and_parts _ _ this.0 in
-    row-has pick.run pick.query.0 runs run from e (equal run.query.0 pick.query.0 here.0)
+    row-has pick.run pick.query.0 runs run from e (eqb-true run.query.0 pick.query.0 here.0)
 
 picks-have : (runs : List RunRow) (docs : List Doc) (earlier : List Pick) (place : ℕ) (before : Option Pick) (picks : List Pick)
     → RunsFrom 1 runs → picks_stand runs docs earlier place before picks ≡ true → Each (λ pick. HasRun pick.run pick.query.0 runs) picks
@@ -164,7 +161,7 @@ ran-late : (queries : List QueryRow) (query : QueryRow) (run : RunRow) → Queri
 ran-late queries query run from has same defined =
     let test : QueryRow → Bool = λ query. int_le query.arrival run.moment in
     up-to query.arrival run.moment
-    (sym (ap (is_row test) (query-at run.query.0 queries query from has (sym (equal run.query.0 query.num.0 same)))) ∙ defined) where
+    (sym (ap (is_row test) (query-at run.query.0 queries query from has (sym (eqb-true run.query.0 query.num.0 same)))) ∙ defined) where
       up-to : (a b : ℤ) → int_le a b ≡ true → a ≤ℤ b
       up-to a b e = grind (arith, ints)
 

@@ -139,11 +139,11 @@ greatest-by m tables positive most =
     }
 
 -- the moment of a text is in range
-moment-in-range : (text : List ℕ) (m : ℤ) → moment_of text ≡ Some m → IsMoment m
+pub moment-in-range : (text : List ℕ) (m : ℤ) → moment_of text ≡ Some m → IsMoment m
 moment-in-range text m e = subst InRange e (moment-range text)
 
 -- a second that is not refused is not below the last one
-not-back : (last second : ℤ) → is_back (Some last) (Some second) ≡ None → last ≤ℤ second
+pub not-back : (last second : ℤ) → is_back (Some last) (Some second) ≡ None → last ≤ℤ second
 not-back last second none = go (int_le last second) refl where
   go : (b : Bool) → int_le last second ≡ b → last ≤ℤ second
   go true y = grind (arith, ints)

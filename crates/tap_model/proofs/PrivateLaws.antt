@@ -15,6 +15,7 @@ use Rattle.tap_rows.specs.Results.{Truth, run_moments, is_given}
 use Rattle.tap_rows.specs.Deliveries.{next_run}
 use Rattle.tap_rows.specs.Kept.{IsOfTheSecond}
 use Rattle.tap_rows.proofs.SecondsLaws.{least_second-same}
+use Rattle.tap_rows.proofs.Tests.{bytes_itself}
 use Rattle.tap_base.specs.declared.moments.TheConstants.{LAST_MOMENT}
 use Rattle.tql_core.specs.Holds as Holds
 use Rattle.tql_core.proofs.OfTheSecond.{of-the-second}
@@ -46,7 +47,7 @@ use Rattle.tap_model.specs.Wakes.{does_deliver, wake_moment}
 use Rattle.tap_model.specs.Privacy.{concerns}
 use Rattle.tap_model.proofs.ViewLaws.{Core, core_of, cores, source_in, Brief, brief_of, core_hits, core_entries, core_lines, core_line}
 use Rattle.tap_model.proofs.ViewLaws.{hits-core, box-core, lines-core, each-line-core}
-use Rattle.tap_model.proofs.CoreLaws.{self-text, cores-new, with_run, cores-run, filter-own}
+use Rattle.tap_model.proofs.CoreLaws.{cores-new, with_run, cores-run, filter-own}
 use Rattle.tap_model.proofs.AlikeLaws.{IsShared, twin, AreTwins, own-twins, user-is, found-same, verdict-alike}
 
 -- what a user is told, and what is left of the view
@@ -90,7 +91,7 @@ define-told : (user name source : List ℕ) (t o : Tables) (s : Session) → Are
     → user_of s ≡ user
     → told user t (add_query name source s t) ≡ told user (twin t o) (add_query name source s (twin t o))
 define-told user name source t o s twins sound sound' is =
-    let own : bytes_eq (user_of s) user ≡ true = subst (λ u. bytes_eq (user_of s) u ≡ true) is (self-text (user_of s)) in
+    let own : bytes_eq (user_of s) user ≡ true = subst (λ u. bytes_eq (user_of s) u ≡ true) is (bytes_itself (user_of s)) in
     let new : Core = record { name = name; source = stored_source source; arrival = moment_or_zero s; runs = [] } in
     let queries : cores user t.runs (t.queries ++ next_query t s name (stored_source source) ∷ [])
     ≡ cores user o.runs (o.queries ++ next_query (twin t o) s name (stored_source source) ∷ []) =
@@ -220,7 +221,7 @@ docs-told user t o s reply (doc ∷ docs) twins = still user t o (after t (Docs 
 filter-told : (user source : List ℕ) (t o : Tables) (s : Session) → AreTwins user t o → user_of s ≡ user
     → told user t (add_filter source s t) ≡ told user (twin t o) (add_filter source s (twin t o))
 filter-told user source t o s twins is =
-    let own : bytes_eq (user_of s) user ≡ true = subst (λ u. bytes_eq (user_of s) u ≡ true) is (self-text (user_of s)) in
+    let own : bytes_eq (user_of s) user ≡ true = subst (λ u. bytes_eq (user_of s) u ≡ true) is (bytes_itself (user_of s)) in
     let last : option_map (λ filter. filter.source) (last_filter user (t.filters ++ next_filter t s source ∷ []))
     ≡ option_map (λ filter. filter.source) (last_filter user (o.filters ++ next_filter (twin t o) s source ∷ [])) =
     ap (option_map (λ filter. filter.source)) (filter-own user t.filters (next_filter t s source) own)

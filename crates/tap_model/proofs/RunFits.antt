@@ -1,11 +1,11 @@
 -- The rows of a run stand in order behind those of the tables: each document that it picks is picked for the first time.
-use Rattle.std.proofs.Common.{◌≡◌, ◌∙◌, sym, ap, refl, subst, arith, ℕ, zero, suc, ◌+◌, ◌≤◌, ◌<◌, ℤ, pos, Bool, true, false, Option, Some}
+use Rattle.std.proofs.Common.{◌≡◌, ◌∙◌, sym, ap, refl, subst, arith, ℕ, suc, ◌+◌, ◌≤◌, ◌<◌, ℤ, pos, Bool, true, false, Option, Some}
 use Rattle.std.proofs.Common.{None, List, [], ◌∷◌, ◌++◌, length, inl, inr, if◌then◌else◌}
-use Rattle.std.specs.Prelude.{◌⊎◌, ◌==◌, ◌&&◌, ◌||◌, not, nat_lt, ◌+ℤ◌, ◌≤ℤ◌, ◌<ℤ◌, int_le, int_lt, filter}
+use Rattle.std.specs.Prelude.{◌⊎◌, ◌==◌, ◌&&◌, ◌||◌, not, nat_lt, ◌≤ℤ◌, ◌<ℤ◌, int_le, int_lt, filter}
 use Rattle.std.specs.List.{filter_map, cons_option, list_any}
 use Rattle.std.specs.Option.{option_or}
 use Rattle.std.specs.Int.{int_gap}
-use Rattle.std.proofs.lemmas.Bool.{and_parts, and_from}
+use Rattle.std.proofs.lemmas.Bool.{and_parts, and_from, eqb-true}
 use Rattle.std.proofs.lemmas.Int.{ints}
 use Rattle.tap_base.specs.declared.moments.TheConstants.{LAST_MOMENT}
 use Rattle.tap_base.specs.declared.numbers.QueryNum.{QueryNum}
@@ -16,33 +16,23 @@ use Rattle.tap_rows.specs.declared.rows.RunRow.{RunRow}
 use Rattle.tap_rows.specs.declared.rows.Pick.{Pick}
 use Rattle.tap_rows.specs.declared.results.Hit.{Hit}
 use Rattle.tap_rows.specs.Arrivals.{Arrived}
-use Rattle.tap_rows.specs.Seconds.{first_from, least_second}
+use Rattle.tap_rows.specs.Seconds.{least_second}
 use Rattle.tap_rows.specs.Results.{Truth, is_given, first_second, hit_of, at_least, put_in, is_before, hits_in_order, run_of, entry_at}
-use Rattle.tap_rows.specs.Results.{entries_of, entries_from, runs_of, run_moments, last_or, covered, union_until, fresh_in, box_of}
+use Rattle.tap_rows.specs.Results.{entries_of, entries_from, runs_of, run_moments, covered, union_until, fresh_in, box_of}
 use Rattle.tap_rows.specs.Deliveries.{delivered, picked, picks_of, pick_rows, next_run, run_hits, run_change}
 use Rattle.tap_rows.specs.WellFormed.{may_follow, row_at, was_defined, is_picked, comes_after, picks_stand}
 use Rattle.tap_rows.specs.Fits.{last_row, low_of, fits}
 use Rattle.tap_rows.specs.Kept.{Each, In, HasRun, RunsFrom, Rising, IsKeptQuery, IsKept, IsBy}
 use Rattle.tap_rows.proofs.LaterLaws.{each-map, each-append}
-use Rattle.tap_rows.proofs.SecondsLaws.{least_second-within, least_second-more}
+use Rattle.tap_rows.proofs.SecondsLaws.{least_second-within, least_second-more, first_from-passes}
 use Rattle.tap_rows.proofs.RunLaws.{rising-le}
+use Rattle.tap_rows.proofs.Tests.{le_yes, lt_yes, le_from}
+use Rattle.tap_rows.proofs.KeptLaws.{last-by}
 use Rattle.tap_model.proofs.RowLaws.{some-same, each-in, in-each, each-row, each-filter, each-passed, each-mapped, each-unmapped, none-any}
 use Rattle.tap_model.proofs.RowLaws.{low-by, Placed, docs-placed, queries-placed, placed-row, placed-same, placed-from, row-last}
 
 same-num : (n : ℕ) → (n == n) ≡ true
 same-num n = grind arith
-
-le-yes : (a b : ℤ) → a ≤ℤ b → int_le a b ≡ true
-le-yes a b le = grind (arith, ints)
-
-lt-yes : (a b : ℤ) → a <ℤ b → int_lt a b ≡ true
-lt-yes a b lt = grind (arith, ints)
-
-le-from : (a b : ℤ) → int_le a b ≡ true → a ≤ℤ b
-le-from a b e = grind (arith, ints)
-
-num-from : (a b : ℕ) → (a == b) ≡ true → a ≡ b
-num-from a b e = grind arith
 
 -- hits that stand each before all that follow, of different documents
 abbrev AreOther : Hit → Hit → Type 0
@@ -146,17 +136,6 @@ found-others second k (doc ∷ docs) placed = go (second doc) (found-others seco
   go None rest = rest
   go (Some f) rest = (found-each (AreOther (hit_at doc f)) second docs later, rest)
 
--- the document is given at its first second
-first_from-holds : (p : ℤ → Bool) (n : ℕ) (a f : ℤ) → first_from p n a ≡ Some f → p f ≡ true
-first_from-holds p zero a f e = absurd (none f e) where
-  none : (f : ℤ) → None ≡ Some f → ⊥
-  none f e = cc
-first_from-holds p (suc n) a f e = go (p a) refl (first_from-holds p n (a +ℤ pos 1) f) e where
-  go : (b : Bool) → p a ≡ b → (first_from p n (a +ℤ pos 1) ≡ Some f → p f ≡ true)
-      → (if b then Some a else first_from p n (a +ℤ pos 1)) ≡ Some f → p f ≡ true
-  go true y rest e = subst (λ s. p s ≡ true) (some-same a f e) y
-  go false n rest e = rest e
-
 module _ (truth : Truth) (tables : Tables) (start t : ℤ) where
   -- what is known of a second from tau on at which a document is first given
   record Fresh (tau : ℤ) (doc : Doc) (f : ℤ) : Type 0 where
@@ -171,8 +150,8 @@ module _ (truth : Truth) (tables : Tables) (start t : ℤ) where
     none f e = cc
 
     given : (g : ℤ) → first_second truth tables doc start t ≡ Some g → doc.arrival ≤ℤ g
-    given g is = le-from doc.arrival g (and_parts (int_le doc.arrival g) (truth tables doc g)
-        (first_from-holds (is_given truth tables doc) (int_gap start t) start g is)).0
+    given g is = le_from doc.arrival g (and_parts (int_le doc.arrival g) (truth tables doc g)
+        (first_from-passes (is_given truth tables doc) (int_gap start t) start g is)).0
 
     made : (g : ℤ) → first_second truth tables doc start t ≡ Some g → tau ≤ℤ g → g ≡ f → Fresh tau doc f
     made g is from same = subst (Fresh tau doc) same
@@ -182,7 +161,7 @@ module _ (truth : Truth) (tables : Tables) (start t : ℤ) where
     go None is e = absurd (none f e)
     go (Some g) is e = at (int_le tau g) refl e where
       at : (b : Bool) → int_le tau g ≡ b → (if b then Some g else None) ≡ Some f → Fresh tau doc f
-      at true y e = made g is (le-from tau g y) (some-same g f e)
+      at true y e = made g is (le_from tau g y) (some-same g f e)
       at false n e = absurd (none f e)
 
   -- a document of this number is first given before tau, if it is at all
@@ -262,7 +241,7 @@ module _ (truth : Truth) (tables : Tables) (start t : ℤ) where
             → ((pick.query.0 == query) && (pick.doc.0 == doc.num.0)) ≡ false
         go false b e e' = rw e refl
         go true false e e' = rw (e, e') refl
-        go true true e e' = absurd (late f fresh.from (o e doc has (sym (num-from pick.doc.0 doc.num.0 e')) f fresh.is))
+        go true true e e' = absurd (late f fresh.from (o e doc has (sym (eqb-true pick.doc.0 doc.num.0 e')) f fresh.is))
 
   -- a hit that may be picked: its document has arrived by it, it is below t, and the query hasn't picked it
   record MayPick (query : ℕ) (hit : Hit) : Type 0 where
@@ -353,8 +332,8 @@ module _ (truth : Truth) (tables : Tables) (start t : ℤ) (run : RunRow) (runs 
 
       stands : is_picked (pick_of num query run.num hit) (row_at run.num runs) (row_at hit.doc.0 tables.docs) ≡ true
       stands = rw (row, may.0.row) (and_from _ _
-          (and_from _ _ (is run.query.0 query.0 of) (lt-yes hit.first run.moment (subst (λ z. hit.first <ℤ z) (sym at) may.0.below)))
-          (le-yes may.0.doc.arrival hit.first may.0.there)) where
+          (and_from _ _ (is run.query.0 query.0 of) (lt_yes hit.first run.moment (subst (λ z. hit.first <ℤ z) (sym at) may.0.below)))
+          (le_yes may.0.doc.arrival hit.first may.0.there)) where
             is : (a b : ℕ) → a ≡ b → (a == b) ≡ true
             is a b e = grind arith
 
@@ -377,11 +356,6 @@ last-behind runs picks hits from each = go (last_row picks) refl where
       (each-row (λ pick. HasRun pick.run pick.query.0 runs) picks (length picks) pick each is) in
       inl (omega (arith, lt))
 
--- the last of moments that are all at most this one is at most it
-last-by : (low t : ℤ) (ms : List ℤ) → low ≤ℤ t → Each (λ m. m ≤ℤ t) ms → last_or low ms ≤ℤ t
-last-by low t [] le each = le
-last-by low t (m ∷ ms) le each = last-by m t ms each.0 each.1
-
 -- the rows of a run of a query that is there, at a moment that no row is after, stand in order behind those of the tables
 pub run-fits : (truth : QueryRow → Truth) (start : QueryRow → ℤ) (t : ℤ) (tables : Tables) (query : QueryRow) → IsKept truth start tables
     → IsBy start t tables → pos 0 ≤ℤ t → t ≤ℤ pos LAST_MOMENT → In query tables.queries
@@ -395,12 +369,12 @@ run-fits truth start t tables query kept
       starts = in-each (λ query. (query.arrival ≤ℤ t) × (start query ≤ℤ t)) tables.queries query has by.queries
 
       follows : may_follow (low_of (λ run. run.moment) tables.runs) t ≡ true
-      follows = and_from _ _ (le-yes (low_of (λ run. run.moment) tables.runs) t (low-by (λ run. run.moment) t tables.runs positive by.runs))
-          (le-yes t (pos LAST_MOMENT) last)
+      follows = and_from _ _ (le_yes (low_of (λ run. run.moment) tables.runs) t (low-by (λ run. run.moment) t tables.runs positive by.runs))
+          (le_yes t (pos LAST_MOMENT) last)
 
       defined : was_defined tables.queries query.num.0 t ≡ true
       defined = rw (placed-row (λ query. query.num.0) tables.queries query (queries-placed 1 tables.queries kept.queries) has)
-          (le-yes query.arrival t starts.0)
+          (le_yes query.arrival t starts.0)
 
       this : IsKeptQuery truth start tables query
       this = in-each (IsKeptQuery truth start tables) tables.queries query has kept.each

@@ -21,6 +21,7 @@ use Rattle.tap_rows.specs.Seconds.{first_from, least_second}
 use Rattle.tap_rows.proofs.SecondsLaws.{gap-none, least_second-within, least_second-same, least_second-more, least_second-never}
 use Rattle.tap_rows.proofs.SecondsLaws.{least_second-is}
 use Rattle.tap_rows.proofs.RunLaws.{Within, fresh-within}
+use Rattle.tap_rows.proofs.Tests.{lt_yes, lt_not, le_yes, le_not}
 use Rattle.restart_core.specs.Starts.{is_from_now}
 use Rattle.time_marks.specs.NextWake.{lesser, lesser_or, greater, least_mark, after_mark, next_wake}
 use Rattle.tap_model.specs.Queries.{query_truth, start_of, hits_of}
@@ -71,18 +72,6 @@ any-same : (p q : Doc → Bool) (docs : List Doc) → ((doc : Doc) → p doc ≡
 any-same p q [] same = refl
 any-same p q (doc ∷ docs) same = rw (same doc, any-same p q docs same) refl
 
-below : (f t : ℤ) → f <ℤ t → int_lt f t ≡ true
-below f t lt = grind (arith, ints)
-
-not-below : (f t : ℤ) → t ≤ℤ f → int_lt f t ≡ false
-not-below f t le = grind (arith, ints)
-
-up-to : (a b : ℤ) → a ≤ℤ b → int_le a b ≡ true
-up-to a b le = grind (arith, ints)
-
-not-up-to : (a b : ℤ) → b <ℤ a → int_le a b ≡ false
-not-up-to a b lt = grind (arith, ints)
-
 -- the greater of two seconds of which the second isn't above the first
 greater-is : (a b : ℤ) → b ≤ℤ a → greater a b ≡ a
 greater-is a b le = grind (arith, ints)
@@ -90,7 +79,7 @@ greater-is a b le = grind (arith, ints)
 -- a second that isn't below the moment
 late-hit : (doc : Doc) (from t g : ℤ) → t ≤ℤ g → hit_passes (is_below t) doc (at_least from (Some g)) ≡ false
 late-hit doc from t g le = elim (int_le from g) as (λ b. hit_passes (is_below t) doc (if b then Some g else None) ≡ false) [
-  | true ↦ not-below g t le
+  | true ↦ lt_not g t le
   | false ↦ refl
 ]
 
@@ -103,7 +92,7 @@ early-hit : (doc : Doc) (from t f : ℤ) → f <ℤ t
     → hit_passes any_hit doc (at_least from (Some f)) ≡ hit_passes (is_below t) doc (at_least from (Some f))
 early-hit doc from t f lt = elim (int_le from f)
     as (λ b. hit_passes any_hit doc (if b then Some f else None) ≡ hit_passes (is_below t) doc (if b then Some f else None)) [
-      | true ↦ sym (below f t lt)
+      | true ↦ sym (lt_yes f t lt)
       | false ↦ refl
     ]
 
@@ -142,10 +131,10 @@ deliver-below truth tables start from t last le =
 less-below : (a b t : ℤ) → (int_lt a t || int_lt b t) ≡ int_lt (lesser a b) t
 less-below a b t =
     by_lt_z b a
-    (λ lt. rw (not-up-to a b lt)
-    (by_lt_z a t (λ l. rw (below a t l, below b t (omega (arith, ints, lt, l))) refl) (λ l. rw (not-below a t l) refl)))
-    (λ ge. rw (up-to a b ge)
-    (by_lt_z a t (λ l. rw (below a t l) refl) (λ l. rw (not-below a t l, not-below b t (omega (arith, ints, ge, l))) refl)))
+    (λ lt. rw (le_not a b lt)
+    (by_lt_z a t (λ l. rw (lt_yes a t l, lt_yes b t (omega (arith, ints, lt, l))) refl) (λ l. rw (lt_not a t l) refl)))
+    (λ ge. rw (le_yes a b ge)
+    (by_lt_z a t (λ l. rw (lt_yes a t l) refl) (λ l. rw (lt_not a t l, lt_not b t (omega (arith, ints, ge, l))) refl)))
 
 lesser-below : (a t : ℤ) (o : Option ℤ) → (int_lt a t || second_below t o) ≡ second_below t (lesser_or a o)
 lesser-below a t None = elim (int_lt a t) as (λ b. (b || false) ≡ b) [ true ↦ refl | false ↦ refl ]
@@ -183,11 +172,11 @@ after-second (Some b) now last le within =
     (λ lt. by_lt_z now (b +ℤ pos 1)
     (λ no. absurd (omega (arith, ints, lt, no)))
     (λ ge. later now (greater-is now (b +ℤ pos 1) ge)
-    (least_second-is (λ t. int_lt b t) now (pos (suc last)) now (omega (arith, ints)) (omega (arith, ints, le)) (below b now lt) (λ x lo hi.
-    absurd (omega (arith, ints, lo, hi))))))
-    (λ ge. later (b +ℤ pos 1) (ap (λ c. if c then b +ℤ pos 1 else now) (up-to now (b +ℤ pos 1) (omega (arith, ints, ge))))
+    (least_second-is (λ t. int_lt b t) now (pos (suc last)) now (omega (arith, ints)) (omega (arith, ints, le)) (lt_yes b now lt)
+    (λ x lo hi. absurd (omega (arith, ints, lo, hi))))))
+    (λ ge. later (b +ℤ pos 1) (ap (λ c. if c then b +ℤ pos 1 else now) (le_yes now (b +ℤ pos 1) (omega (arith, ints, ge))))
     (least_second-is (λ t. int_lt b t) now (pos (suc last)) (b +ℤ pos 1) (omega (arith, ints, ge)) (omega (arith, ints, high))
-    (below b (b +ℤ pos 1) (omega (arith, ints))) (λ x lo hi. not-below b x (omega (arith, ints, hi))))))
+    (lt_yes b (b +ℤ pos 1) (omega (arith, ints))) (λ x lo hi. lt_not b x (omega (arith, ints, hi))))))
   where
     later : (s : ℤ) → greater now (b +ℤ pos 1) ≡ s → least_second (λ t. int_lt b t) now (pos (suc last)) ≡ Some s
         → least_second (λ t. int_lt b t) now (pos (suc last)) ≡ Some (greater now (b +ℤ pos 1))

@@ -1,9 +1,9 @@
 -- A run by the window query delivers what is fresh.
 use Rattle.std.proofs.Common.{◌≡◌, ◌∙◌, sym, ap, refl, subst, arith, ℕ, suc, ◌+◌, ◌≤◌, ◌<◌, ℤ, pos, Bool, true, false, Option, Some, None}
 use Rattle.std.proofs.Common.{List, [], ◌∷◌, ◌++◌, length, map, inl, inr, if◌then◌else◌, nat_eq, Result, Ok, Err}
-use Rattle.std.specs.Prelude.{◌⊎◌, ◌==◌, ◌||◌, ◌&&◌, not, ◌≤ℤ◌, ◌<ℤ◌, int_le, int_lt, filter, is_some}
+use Rattle.std.specs.Prelude.{◌==◌, ◌||◌, ◌&&◌, not, ◌≤ℤ◌, ◌<ℤ◌, int_le, filter, is_some}
 use Rattle.std.specs.List.{list_any, filter_map, cons_option}
-use Rattle.std.proofs.lemmas.Bool.{cases_Bool}
+use Rattle.std.proofs.lemmas.Bool.{cases_Bool, or_left, or_right, or_cases}
 use Rattle.std.proofs.lemmas.Int.{ints, by_lt_z}
 use Rattle.std.proofs.lemmas.List.Folds.{list_any-append}
 use Rattle.tap_rows.specs.declared.tables.Tables.{Tables}
@@ -15,12 +15,14 @@ use Rattle.tap_base.specs.Names.{is_name}
 use Rattle.tap_rows.specs.Arrivals.{Arrived}
 use Rattle.tap_rows.specs.WellFormed.{may_follow, is_query_of, query_stands, queries_stand, docs_stand, notes_stand, runs_stand}
 use Rattle.tap_rows.specs.WellFormed.{picks_stand, filters_stand, is_well_formed}
-use Rattle.tap_rows.specs.Kept.{Each, In, Rising, IsKeptQuery}
+use Rattle.tap_rows.specs.Kept.{In, Rising, IsKeptQuery}
 use Rattle.tap_rows.specs.Results.{Truth, is_given, first_second, hit_of, at_least, hits_by, put_in, is_before, hits_in_order, run_of}
 use Rattle.tap_rows.specs.Results.{entry_at, entries_of, entries_from, last_or, run_moments, covered, union_until, fresh_in}
 use Rattle.tap_rows.specs.Deliveries.{delivered}
 use Rattle.tap_rows.proofs.SecondsLaws.{least_second-within, least_second-same}
 use Rattle.tap_rows.proofs.RunLaws.{rising-le, Within, fresh-within}
+use Rattle.tap_rows.proofs.Tests.{agree, nat_itself, lt_yes, lt_not, le_yes}
+use Rattle.tap_rows.proofs.LaterLaws.{each-in}
 use Rattle.tql_core.proofs.OfTheSecond.{of-the-second}
 use Rattle.tql_core.specs.Condition.{Condition}
 use Rattle.tql_core.specs.Scope.{IsQuery}
@@ -42,24 +44,6 @@ use Rattle.restart_core.specs.Starts.{is_from_now, condition_text}
 use Rattle.tap_model.specs.Queries.{or_never, condition_in, condition_by, query_truth, start_of, probes_of_query, hits_of}
 use Rattle.tap_model.specs.WindowRuns.{is_delivered, asked_rows, found_since, was_given, UnseenIsFresh, RunsAreWindows}
 
--- two tests that pass alike
-both-same : (a b : Bool) → (a ≡ true → b ≡ true) → (b ≡ true → a ≡ true) → a ≡ b
-both-same true true f g = refl
-both-same true false f g = sym (f refl)
-both-same false true f g = g refl
-both-same false false f g = refl
-
-or-left : (a b : Bool) → a ≡ true → (a || b) ≡ true
-or-left a b e = rw e refl
-
-or-right : (a b : Bool) → b ≡ true → (a || b) ≡ true
-or-right true b e = refl
-or-right false b e = e
-
-or-cases : (a b : Bool) → (a || b) ≡ true → (a ≡ true) ⊎ (b ≡ true)
-or-cases true b e = inl refl
-or-cases false b e = inr e
-
 -- is the hit of this document?
 abbrev is_of : ℕ → Hit → Bool
 is_of doc hit = nat_eq doc hit.doc.0
@@ -73,12 +57,12 @@ run-hits : (doc run : ℕ) (ms : List ℤ) (hits : List Hit)
     → list_any (is_of doc) hits ≡ true
 run-hits doc run ms [] e = e
 run-hits doc run ms (hit ∷ hits) e = elim (cases_Bool (run_of hit.first ms == run)) [
-  | inl y ↦ elim (or-cases (nat_eq doc hit.doc.0)
+  | inl y ↦ elim (or_cases (nat_eq doc hit.doc.0)
       (list_any (is_entry_of doc) (map (entry_at run) (filter (λ hit. run_of hit.first ms == run) hits))) (rw y at e)) [
-        | inl here ↦ or-left (nat_eq doc hit.doc.0) (list_any (is_of doc) hits) here
-        | inr later ↦ or-right (nat_eq doc hit.doc.0) (list_any (is_of doc) hits) (run-hits doc run ms hits later)
+        | inl here ↦ or_left (nat_eq doc hit.doc.0) (list_any (is_of doc) hits) here
+        | inr later ↦ or_right (nat_eq doc hit.doc.0) (list_any (is_of doc) hits) (run-hits doc run ms hits later)
       ]
-  | inr n ↦ or-right (nat_eq doc hit.doc.0) (list_any (is_of doc) hits) (run-hits doc run ms hits (rw n at e))
+  | inr n ↦ or_right (nat_eq doc hit.doc.0) (list_any (is_of doc) hits) (run-hits doc run ms hits (rw n at e))
 ]
 
 -- and so are all entries
@@ -86,25 +70,19 @@ box-hits : (doc run : ℕ) (mm ms : List ℤ) (hits : List Hit) → list_any (is
     → list_any (is_of doc) hits ≡ true
 box-hits doc run mm [] hits e = absurd cc
 box-hits doc run mm (m ∷ ms) hits e =
-    elim (or-cases (list_any (is_entry_of doc) (entries_of mm hits run)) (list_any (is_entry_of doc) (entries_from mm hits (run + 1) ms))
+    elim (or_cases (list_any (is_entry_of doc) (entries_of mm hits run)) (list_any (is_entry_of doc) (entries_from mm hits (run + 1) ms))
     (sym (list_any-append (is_entry_of doc) (entries_of mm hits run) (entries_from mm hits (run + 1) ms)) ∙ e)) [
       | inl here ↦ run-hits doc run mm hits here
       | inr later ↦ box-hits doc (run + 1) mm ms hits later
     ]
-
-above : (f m : ℤ) → f <ℤ m → int_lt f m ≡ true
-above f m lt = grind (arith, ints)
-
-not-above : (f m : ℤ) → m ≤ℤ f → int_lt f m ≡ false
-not-above f m le = grind (arith, ints)
 
 -- a second below the last run belongs to a run that there was
 run-there : (low f : ℤ) (ms : List ℤ) → Rising low ms → low ≤ℤ f → f <ℤ last_or low ms → (1 ≤ run_of f ms) × (run_of f ms ≤ length ms)
 run-there low f [] rising from below = absurd (omega (arith, ints))
 run-there low f (m ∷ ms) rising from below =
     by_lt_z f m
-    (λ lt. rw (above f m lt) (omega arith, omega arith))
-    (λ ge. let rest = run-there m f ms rising.1 ge below in rw (not-above f m ge) (omega (arith, rest.0), omega (arith, rest.1)))
+    (λ lt. rw (lt_yes f m lt) (omega arith, omega arith))
+    (λ ge. let rest = run-there m f ms rising.1 ge below in rw (lt_not f m ge) (omega (arith, rest.0), omega (arith, rest.1)))
 
 same : (a : ℕ) → (a == a) ≡ true
 same a = grind arith
@@ -115,12 +93,12 @@ hit-in-run : (doc run : ℕ) (ms : List ℤ) (hits : List Hit) (hit : Hit) → I
 hit-in-run doc run ms [] hit has is at = absurd has
 hit-in-run doc run ms (x ∷ hits) hit (inl e) is at =
     let yes : (run_of x.first ms == run) ≡ true = ap (λ (h : Hit). run_of h.first ms == run) (sym e) ∙ ap (λ k. k == run) at ∙ same run in
-    rw yes (or-left (nat_eq doc x.doc.0) (list_any (is_entry_of doc) (map (entry_at run) (filter (λ hit. run_of hit.first ms == run) hits)))
+    rw yes (or_left (nat_eq doc x.doc.0) (list_any (is_entry_of doc) (map (entry_at run) (filter (λ hit. run_of hit.first ms == run) hits)))
     (ap (is_of doc) (sym e) ∙ is))
 hit-in-run doc run ms (x ∷ hits) hit (inr has) is at = elim (cases_Bool (run_of x.first ms == run)) [
   | inl y ↦
       rw y
-      (or-right (nat_eq doc x.doc.0) (list_any (is_entry_of doc) (map (entry_at run) (filter (λ hit. run_of hit.first ms == run) hits)))
+      (or_right (nat_eq doc x.doc.0) (list_any (is_entry_of doc) (map (entry_at run) (filter (λ hit. run_of hit.first ms == run) hits)))
       (hit-in-run doc run ms hits hit has is at))
   | inr n ↦ rw n (hit-in-run doc run ms hits hit has is at)
 ]
@@ -131,10 +109,10 @@ hit-in-box : (doc k : ℕ) (mm ms : List ℤ) (hits : List Hit) (hit : Hit) → 
 hit-in-box doc k mm [] hits hit has is from below = absurd (omega arith)
 hit-in-box doc k mm (m ∷ ms) hits hit has is from below = elim (cases_Bool (run_of hit.first mm == k)) [
   | inl y ↦ list_any-append (is_entry_of doc) (entries_of mm hits k) (entries_from mm hits (k + 1) ms)
-      ∙ or-left (list_any (is_entry_of doc) (entries_of mm hits k)) (list_any (is_entry_of doc) (entries_from mm hits (k + 1) ms))
+      ∙ or_left (list_any (is_entry_of doc) (entries_of mm hits k)) (list_any (is_entry_of doc) (entries_from mm hits (k + 1) ms))
       (hit-in-run doc k mm hits hit has is (equal (run_of hit.first mm) k y))
   | inr n ↦ list_any-append (is_entry_of doc) (entries_of mm hits k) (entries_from mm hits (k + 1) ms)
-      ∙ or-right (list_any (is_entry_of doc) (entries_of mm hits k)) (list_any (is_entry_of doc) (entries_from mm hits (k + 1) ms))
+      ∙ or_right (list_any (is_entry_of doc) (entries_of mm hits k)) (list_any (is_entry_of doc) (entries_from mm hits (k + 1) ms))
       (hit-in-box doc (k + 1) mm ms hits hit has is (next (run_of hit.first mm) k n from) (fewer (run_of hit.first mm) k (length ms) below))
 ]
   where
@@ -155,7 +133,7 @@ pub record Hits (test : Hit → Bool) (hits : List Hit) : Type 0 where
 
 any-hit : (test : Hit → Bool) (hits : List Hit) → list_any test hits ≡ true → Hits test hits
 any-hit test [] e = absurd cc
-any-hit test (hit ∷ hits) e = elim (or-cases (test hit) (list_any test hits) e) [
+any-hit test (hit ∷ hits) e = elim (or_cases (test hit) (list_any test hits) e) [
   | inl here ↦ record { hit = hit; has = inl refl; passes = here }
   | inr later ↦ let rest = any-hit test hits later in record { hit = rest.hit; has = inr rest.has; passes = rest.passes }
 ]
@@ -170,7 +148,7 @@ in-window low high (x ∷ hits) hit within (inr has) = in-window low high hits h
 box-docs : (doc : ℕ) (low : ℤ) (ms : List ℤ) (hits : List Hit) → Rising low ms → Within low (last_or low ms) hits
     → list_any (is_entry_of doc) (entries_from ms hits 1 ms) ≡ list_any (is_of doc) hits
 box-docs doc low ms hits rising within =
-    both-same (list_any (is_entry_of doc) (entries_from ms hits 1 ms)) (list_any (is_of doc) hits)
+    agree (list_any (is_entry_of doc) (entries_from ms hits 1 ms)) (list_any (is_of doc) hits)
     (box-hits doc 1 ms ms hits)
     (λ e.
     let one = any-hit (is_of doc) hits e in
@@ -178,7 +156,7 @@ box-docs doc low ms hits rising within =
     let run = run-there low one.hit.first ms rising at.0 at.1 in
     hit-in-box doc 1 ms ms hits one.hit one.has one.passes run.0 (omega (arith, run.1)))
 
-or-swap : (a b c : Bool) → (a || (b || c)) ≡ (b || (a || c))
+pub or-swap : (a b c : Bool) → (a || (b || c)) ≡ (b || (a || c))
 or-swap true true c = refl
 or-swap true false c = refl
 or-swap false true c = refl
@@ -195,9 +173,6 @@ put-any test hit (other ∷ hits) = elim (cases_Bool (is_before hit other)) [
 pub order-any : (test : Hit → Bool) (hits : List Hit) → list_any test (hits_in_order hits) ≡ list_any test hits
 order-any test [] = refl
 order-any test (hit ∷ hits) = put-any test hit (hits_in_order hits) ∙ ap (λ b. test hit || b) (order-any test hits)
-
-nat-self : (n : ℕ) → nat_eq n n ≡ true
-nat-self n = grind arith
 
 nat-less : (n k : ℕ) → n < k → nat_eq n k ≡ false
 nat-less n k lt = grind arith
@@ -222,7 +197,7 @@ none-later second doc num low (d ∷ docs) arrived lt =
 own-hit : (d : Doc) (o : Option ℤ) (hits : List Hit) → list_any (is_of d.num.0) hits ≡ false
     → list_any (is_of d.num.0) (cons_option (hit_of d o) hits) ≡ is_some o
 own-hit d None hits none = none
-own-hit d (Some f) hits none = rw (nat-self d.num.0) refl
+own-hit d (Some f) hits none = rw (nat_itself d.num.0) refl
 
 num-from : (num : ℕ) (low : ℤ) (docs : List Doc) (d : Doc) → Arrived num low docs → In d docs → num ≤ d.num.0
 num-from num low [] d arrived has = absurd has
@@ -243,16 +218,13 @@ doc-hit second num low (x ∷ docs) d arrived (inr has) =
     other-hit d.num.0 x (second x) (filter_map (λ d. hit_of d (second d)) docs) (nat-more d.num.0 x.num.0 (omega (arith, arrived.1, from)))
     ∙ doc-hit second (suc num) x.arrival docs d arrived.2 has
 
-le-yes : (a s : ℤ) → a ≤ℤ s → int_le a s ≡ true
-le-yes a s h = grind (arith, ints)
-
 -- a first second is not below the start
 from-start : (truth : Truth) (tables : Tables) (d : Doc) (start t : ℤ)
     → is_some (at_least start (first_second truth tables d start t)) ≡ is_some (first_second truth tables d start t)
 from-start truth tables d start t = go (first_second truth tables d start t) refl where
   go : (o : Option ℤ) → first_second truth tables d start t ≡ o → is_some (at_least start o) ≡ is_some o
   go None e = refl
-  go (Some f) e = rw (le-yes start f (least_second-within (is_given truth tables d) start t f e).0) refl
+  go (Some f) e = rw (le_yes start f (least_second-within (is_given truth tables d) start t f e).0) refl
 
 -- what was delivered are the documents that were given before the last run
 delivered-before : (truth : QueryRow → Truth) (start : QueryRow → ℤ) (tables : Tables) (query : QueryRow) (d : Doc)
@@ -320,12 +292,6 @@ tokens-query (Ok tokens) = tree-query (query_at 32 tokens)
 pub is-query : (text : List ℕ) → IsQuery (condition_in text)
 unfolding condition_in
 is-query text = tokens-query (lexed text)
-
--- each of the rows has what each has
-each-in : {A : Type 0} (P : A → Type 0) (xs : List A) (x : A) → Each P xs → In x xs → P x
-each-in P [] x each has = absurd has
-each-in P (y ∷ ys) x each (inl e) = subst P (sym e) each.0
-each-in P (y ∷ ys) x each (inr has) = each-in P ys x each.1 has
 
 pub first-part : (a b : Bool) → (a && b) ≡ true → a ≡ true
 first-part true b e = refl

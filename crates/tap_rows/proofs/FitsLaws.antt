@@ -18,6 +18,7 @@ use Rattle.tap_rows.specs.WellFormed.{row_at, is_row, doc_stands, docs_stand, no
 use Rattle.tap_rows.specs.WellFormed.{run_stands, runs_stand, is_picked, pick_stands, picks_stand, filter_stands, filters_stand}
 use Rattle.tap_rows.specs.WellFormed.{is_well_formed}
 use Rattle.tap_rows.specs.Fits.{last_row, moment_or_start, low_of, fits}
+use Rattle.tap_rows.proofs.Tests.{and_end}
 
 -- what the last of some elements hands on, or the state before if there is none
 abbrev last_from : {A S : Type 0} → (A → S) → S → List A → S
@@ -209,10 +210,6 @@ one-more n = omega arith
 both : (all xs ys : Bool) → all ≡ (xs && ys) → xs ≡ true → all ≡ ys
 both all xs ys e h = rw (e, h) refl
 
-and-end : (b : Bool) → (b && true) ≡ b
-and-end true = refl
-and-end false = refl
-
 docs-fit : (docs new : List Doc) → docs_stand 1 (pos 0) docs ≡ true
     → docs_stand 1 (pos 0) (docs ++ new) ≡ docs_stand (length docs + 1) (low_of (λ doc. doc.arrival) docs) new
 docs-fit docs new holds =
@@ -231,7 +228,7 @@ note-fits docs notes new holds =
     ∙ moved (1 + length notes) (length notes + 1) (last_from (λ note. note.arrival) (pos 0) notes) (low_of (λ note. note.arrival) notes)
     (one-more (length notes)) (low-is (λ note. note.arrival) notes) where
       moved : (p p' : ℕ) (l l' : ℤ) → p ≡ p' → l ≡ l' → notes_stand docs p l (new ∷ []) ≡ note_stands docs p' l' new
-      moved p p' l l' e f = rw (e, f) (and-end (note_stands docs p' l' new))
+      moved p p' l l' e f = rw (e, f) (and_end (note_stands docs p' l' new))
 
 query-fits : (queries : List QueryRow) (new : QueryRow) → queries_stand [] 1 (pos 0) queries ≡ true → queries_stand [] 1 (pos 0)
     (queries ++ new ∷ []) ≡ query_stands queries (length queries + 1) (low_of (λ query. query.arrival) queries) new
@@ -241,7 +238,7 @@ query-fits queries new holds =
     ∙ moved (1 + length queries) (length queries + 1) (last_from (λ query. query.arrival) (pos 0) queries)
     (low_of (λ query. query.arrival) queries) (one-more (length queries)) (low-is (λ query. query.arrival) queries) where
       moved : (p p' : ℕ) (l l' : ℤ) → p ≡ p' → l ≡ l' → queries_stand queries p l (new ∷ []) ≡ query_stands queries p' l' new
-      moved p p' l l' e f = rw (e, f) (and-end (query_stands queries p' l' new))
+      moved p p' l l' e f = rw (e, f) (and_end (query_stands queries p' l' new))
 
 run-fits : (queries : List QueryRow) (runs : List RunRow) (new : RunRow) → runs_stand queries 1 (pos 0) runs ≡ true
     → runs_stand queries 1 (pos 0) (runs ++ new ∷ []) ≡ run_stands queries (length runs + 1) (low_of (λ run. run.moment) runs) new
@@ -251,7 +248,7 @@ run-fits queries runs new holds =
     ∙ moved (1 + length runs) (length runs + 1) (last_from (λ run. run.moment) (pos 0) runs) (low_of (λ run. run.moment) runs)
     (one-more (length runs)) (low-is (λ run. run.moment) runs) where
       moved : (p p' : ℕ) (l l' : ℤ) → p ≡ p' → l ≡ l' → runs_stand queries p l (new ∷ []) ≡ run_stands queries p' l' new
-      moved p p' l l' e f = rw (e, f) (and-end (run_stands queries p' l' new))
+      moved p p' l l' e f = rw (e, f) (and_end (run_stands queries p' l' new))
 
 picks-fit : (runs : List RunRow) (docs : List Doc) (picks new : List Pick) → picks_stand runs docs [] 1 None picks ≡ true
     → picks_stand runs docs [] 1 None (picks ++ new) ≡ picks_stand runs docs picks (length picks + 1) (last_row picks) new
@@ -272,7 +269,7 @@ filter-fits filters new holds =
     ∙ moved (1 + length filters) (length filters + 1) (last_from (λ filter. filter.arrival) (pos 0) filters)
     (low_of (λ filter. filter.arrival) filters) (one-more (length filters)) (low-is (λ filter. filter.arrival) filters) where
       moved : (p p' : ℕ) (l l' : ℤ) → p ≡ p' → l ≡ l' → filters_stand p l (new ∷ []) ≡ filter_stands p' l' new
-      moved p p' l l' e f = rw (e, f) (and-end (filter_stands p' l' new))
+      moved p p' l l' e f = rw (e, f) (and_end (filter_stands p' l' new))
 
 -- picks stand over more runs and no more documents
 picks-runs : (runs more : List RunRow) (docs : List Doc) (picks : List Pick) → picks_stand runs docs [] 1 None picks ≡ true

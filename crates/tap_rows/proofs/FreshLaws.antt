@@ -12,48 +12,34 @@ use Rattle.tap_rows.specs.Arrivals.{Arrived}
 use Rattle.tap_rows.specs.Results.{Truth, is_given, first_second, hit_of, at_least, hits_in_order, put_in, is_before, fresh_in}
 use Rattle.tap_rows.specs.Constant.{at_arrival, arrival_hit}
 use Rattle.tap_rows.proofs.SecondsLaws.{least_second-is, least_second-never}
-
-le-yes : (a s : ℤ) → a ≤ℤ s → int_le a s ≡ true
-le-yes a s h = grind (arith, ints)
-
-le-not : (a s : ℤ) → s <ℤ a → int_le a s ≡ false
-le-not a s h = grind (arith, ints)
-
-lt-yes : (a s : ℤ) → a <ℤ s → int_lt a s ≡ true
-lt-yes a s h = grind (arith, ints)
-
-lt-not : (a s : ℤ) → s ≤ℤ a → int_lt a s ≡ false
-lt-not a s h = grind (arith, ints)
-
-and-false : (b : Bool) → (b && false) ≡ false
-and-false b = elim b as (λ b. (b && false) ≡ false) [ true ↦ refl | false ↦ refl ]
+use Rattle.tap_rows.proofs.Tests.{le_yes, le_not, lt_yes, lt_not, and_never}
 
 -- the first second of a document for which the condition holds is its arrival
 pub first-holds : (truth : Truth) (tables : Tables) (doc : Doc) (start t : ℤ) → start ≤ℤ doc.arrival → ((s : ℤ) → truth tables doc s ≡ true)
     → doc.arrival <ℤ t → first_second truth tables doc start t ≡ Some doc.arrival
 first-holds truth tables doc start t from always below =
     least_second-is (is_given truth tables doc) start t doc.arrival from below
-    (rw (le-yes doc.arrival doc.arrival (omega (arith, ints)), always doc.arrival) refl) (λ r lo before.
-    rw (le-not doc.arrival r before) refl)
+    (rw (le_yes doc.arrival doc.arrival (omega (arith, ints)), always doc.arrival) refl) (λ r lo before.
+    rw (le_not doc.arrival r before) refl)
 
 pub first-late : (truth : Truth) (tables : Tables) (doc : Doc) (start t : ℤ) → t ≤ℤ doc.arrival
     → first_second truth tables doc start t ≡ None
 first-late truth tables doc start t late =
-    least_second-never (is_given truth tables doc) start t (λ r lo before. rw (le-not doc.arrival r (omega (arith, ints))) refl)
+    least_second-never (is_given truth tables doc) start t (λ r lo before. rw (le_not doc.arrival r (omega (arith, ints))) refl)
 
 pub first-never : (truth : Truth) (tables : Tables) (doc : Doc) (start t : ℤ) → ((s : ℤ) → truth tables doc s ≡ false)
     → first_second truth tables doc start t ≡ None
 first-never truth tables doc start t never =
-    least_second-never (is_given truth tables doc) start t (λ r lo before. rw (never r) (and-false (int_le doc.arrival r)))
+    least_second-never (is_given truth tables doc) start t (λ r lo before. rw (never r) (and_never (int_le doc.arrival r)))
 
 hit-holds : (truth : Truth) (tables : Tables) (doc : Doc) (start tau t : ℤ) → start ≤ℤ doc.arrival → ((s : ℤ) → truth tables doc s ≡ true)
     → hit_of doc (at_least tau (first_second truth tables doc start t))
     ≡ (if int_le tau doc.arrival && int_lt doc.arrival t then at_arrival doc else None)
 hit-holds truth tables doc start tau t from always =
     by_lt_z doc.arrival t
-    (λ lt. rw (first-holds truth tables doc start t from always lt, lt-yes doc.arrival t lt)
+    (λ lt. rw (first-holds truth tables doc start t from always lt, lt_yes doc.arrival t lt)
     (elim (cases_Bool (int_le tau doc.arrival)) [ inl y ↦ rw y refl | inr n ↦ rw n refl ]))
-    (λ ge. rw (first-late truth tables doc start t ge, lt-not doc.arrival t ge, and-false (int_le tau doc.arrival)) refl)
+    (λ ge. rw (first-late truth tables doc start t ge, lt_not doc.arrival t ge, and_never (int_le tau doc.arrival)) refl)
 
 pub hit-is : (truth : Truth) (tables : Tables) (holds : Doc → Bool) (doc : Doc) (start tau t : ℤ)
     → ((d : Doc) (s : ℤ) → truth tables d s ≡ holds d) → start ≤ℤ doc.arrival

@@ -36,7 +36,7 @@ delivered-same : (query : ℕ) (runs runs' : List RunRow) (picks picks' : List P
 delivered-same query runs runs' picks picks' r p = rw (r, p) refl
 
 -- the last of moments that are all at most this one is at most it
-last-by : (low t : ℤ) (ms : List ℤ) → low ≤ℤ t → Each (λ m. m ≤ℤ t) ms → last_or low ms ≤ℤ t
+pub last-by : (low t : ℤ) (ms : List ℤ) → low ≤ℤ t → Each (λ m. m ≤ℤ t) ms → last_or low ms ≤ℤ t
 last-by low t [] le each = le
 last-by low t (m ∷ ms) le each = last-by m t ms each.0 each.1
 

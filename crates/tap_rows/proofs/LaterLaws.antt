@@ -1,5 +1,5 @@
 -- Rows that arrive later change no first second, for every condition.
-use Rattle.std.proofs.Common.{◌≡◌, ◌∙◌, sym, ap, refl, arith, ℤ, Bool, false, Option, None, List, [], ◌∷◌, ◌++◌, inl, inr}
+use Rattle.std.proofs.Common.{◌≡◌, ◌∙◌, sym, ap, subst, refl, arith, ℤ, Bool, false, Option, List, [], ◌∷◌, ◌++◌, inl, inr}
 use Rattle.std.specs.Prelude.{◌&&◌, ◌≤ℤ◌, ◌<ℤ◌, int_le, filter}
 use Rattle.std.specs.List.{filter_map}
 use Rattle.std.proofs.lemmas.Bool.{cases_Bool}
@@ -10,9 +10,10 @@ use Rattle.tap_rows.specs.declared.tables.Tables.{Tables}
 use Rattle.tap_rows.specs.declared.rows.Doc.{Doc}
 use Rattle.tap_rows.specs.declared.results.Hit.{Hit}
 use Rattle.tap_rows.specs.Results.{Truth, visible, is_given, first_second, hit_of, at_least, hits_in_order, fresh_in}
-use Rattle.tap_rows.specs.Kept.{Each, IsOfTheSecond}
+use Rattle.tap_rows.specs.Kept.{Each, In, IsOfTheSecond}
 use Rattle.tap_rows.specs.Grown.{Grown}
-use Rattle.tap_rows.proofs.SecondsLaws.{least_second-same, least_second-never}
+use Rattle.tap_rows.proofs.SecondsLaws.{least_second-same}
+use Rattle.tap_rows.proofs.FreshLaws.{first-late}
 
 -- what fails a test adds nothing to what passes
 pub filter-none : {A : Type 0} (p : A → Bool) (xs ys : List A) → Each (λ y. p y ≡ false) ys → filter p (xs ++ ys) ≡ filter p xs
@@ -31,6 +32,12 @@ each-map P Q (x ∷ xs) f each = (f x each.0, each-map P Q xs f each.1)
 pub each-append : {A : Type 0} (P : A → Type 0) (xs ys : List A) → Each P xs → Each P ys → Each P (xs ++ ys)
 each-append P [] ys each more = more
 each-append P (x ∷ xs) ys each more = (each.0, each-append P xs ys each.1 more)
+
+-- one of rows that all have something has it
+pub each-in : {A : Type 0} (P : A → Type 0) (xs : List A) (x : A) → Each P xs → In x xs → P x
+each-in P [] x each has = absurd has
+each-in P (y ∷ ys) x each (inl e) = subst P (sym e) each.0
+each-in P (y ∷ ys) x each (inr has) = each-in P ys x each.1 has
 
 hidden : (a s t : ℤ) → t ≤ℤ a → s <ℤ t → int_le a s ≡ false
 hidden a s t h k = grind (arith, ints)
@@ -67,17 +74,11 @@ first-later truth t tables later doc start until causal grown le =
     ap (λ b. int_le doc.arrival x && b)
     (causal tables later doc x (docs-kept t x tables later grown before) (notes-kept t x tables later grown before)))
 
--- a document that came later has none
-pub first-new : (truth : Truth) (tables : Tables) (doc : Doc) (start until : ℤ) → until ≤ℤ doc.arrival
-    → first_second truth tables doc start until ≡ None
-first-new truth tables doc start until late =
-    least_second-never (is_given truth tables doc) start until (λ x lo hi. rw (hidden doc.arrival x until late hi) refl)
-
 hits-new : (truth : Truth) (tables : Tables) (start tau until : ℤ) (docs : List Doc) → Each (λ doc. until ≤ℤ doc.arrival) docs
     → filter_map (λ doc. hit_of doc (at_least tau (first_second truth tables doc start until))) docs ≡ []
 hits-new truth tables start tau until [] late = refl
 hits-new truth tables start tau until (doc ∷ docs) late =
-    rw (first-new truth tables doc start until late.0) (hits-new truth tables start tau until docs late.1)
+    rw (first-late truth tables doc start until late.0) (hits-new truth tables start tau until docs late.1)
 
 hits-later : (truth : Truth) (t : ℤ) (tables later : Tables) (start tau until : ℤ) (docs : List Doc) → IsOfTheSecond truth
     → Grown t tables later → until ≤ℤ t → filter_map (λ doc. hit_of doc (at_least tau (first_second truth later doc start until))) docs

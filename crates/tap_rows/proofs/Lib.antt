@@ -1,4 +1,5 @@
 mod Worked
+pub mod Tests
 pub mod SecondsLaws
 pub mod FreshLaws
 pub mod OrderLaws

@@ -1,9 +1,9 @@
 -- Where the runs and picks of a query stand once a run was added.
-use Rattle.std.proofs.Common.{◌≡◌, ◌∙◌, sym, ap, refl, arith, ℕ, suc, ◌+◌, ◌≤◌, ◌<◌, true, false, List, [], ◌∷◌, ◌++◌, length, map, inl}
+use Rattle.std.proofs.Common.{◌≡◌, ◌∙◌, sym, ap, refl, arith, ℕ, suc, ◌+◌, ◌≤◌, ◌<◌, false, List, [], ◌∷◌, ◌++◌, length, map, inl}
 use Rattle.std.proofs.Common.{inr}
 use Rattle.std.specs.Prelude.{◌==◌}
 use Rattle.std.specs.List.{position_or_len}
-use Rattle.std.proofs.lemmas.Bool.{cases_Bool, both_ways}
+use Rattle.std.proofs.lemmas.Bool.{cases_Bool, both_ways, eq-eqb, ne_eqb}
 use Rattle.std.proofs.lemmas.List.{map-append, length-map}
 use Rattle.std.proofs.lemmas.List.Elements.{filter-append}
 use Rattle.tap_base.specs.declared.numbers.QueryNum.{QueryNum}
@@ -16,12 +16,6 @@ use Rattle.tap_rows.specs.Deliveries.{run_ordinal, picked, picks_of, pick_rows}
 use Rattle.tap_rows.specs.Kept.{Each, In, HasRun, RunsFrom, QueriesFrom}
 use Rattle.tap_rows.proofs.LaterLaws.{filter-none}
 
-same-yes : (a b : ℕ) → a ≡ b → (a == b) ≡ true
-same-yes a b e = grind arith
-
-same-not : (a b : ℕ) → (a ≡ b → ⊥) → (a == b) ≡ false
-same-not a b n = grind arith
-
 -- the run of a number among a query's runs keeps its place
 place-stays : (num query : ℕ) (runs : List RunRow) (new : RunRow) → HasRun num query runs → position_or_len (λ run. run.num == num)
     (runs_of query (runs ++ new ∷ [])) ≡ position_or_len (λ run. run.num == num) (runs_of query runs)
@@ -31,10 +25,10 @@ place-stays num query (run ∷ runs) new has =
       | inl y ↦ elim (cases_Bool (run.num == num)) [
         | inl yes' ↦ rw (y, yes') refl
         | inr no' ↦ rw (y, no') (ap (λ n. 1 + n) (place-stays num query runs new
-            (elim has [ inl e ↦ absurd (both_ways (run.num == num) no' (same-yes run.num num e.0)) | inr h ↦ h ])))
+            (elim has [ inl e ↦ absurd (both_ways (run.num == num) no' (eq-eqb run.num num e.0)) | inr h ↦ h ])))
       ]
       | inr n ↦ rw n (place-stays num query runs new
-          (elim has [ inl e ↦ absurd (both_ways (run.query.0 == query) n (same-yes run.query.0 query e.1)) | inr h ↦ h ]))
+          (elim has [ inl e ↦ absurd (both_ways (run.query.0 == query) n (eq-eqb run.query.0 query e.1)) | inr h ↦ h ]))
     ]
 
 pub ordinal-stays : (num query : ℕ) (runs : List RunRow) (new : RunRow) → HasRun num query runs
@@ -47,9 +41,9 @@ one-more a b e = omega (arith, e)
 -- a new run stands behind its query's runs
 place-new : (k query : ℕ) (runs : List RunRow) (new : RunRow) → RunsFrom k runs → k + length runs ≡ new.num → new.query.0 ≡ query
     → position_or_len (λ run. run.num == new.num) (runs_of query (runs ++ new ∷ [])) ≡ length (runs_of query runs)
-place-new k query [] new from is of = rw (same-yes new.query.0 query of, same-yes new.num new.num refl) refl
+place-new k query [] new from is of = rw (eq-eqb new.query.0 query of, eq-eqb new.num new.num refl) refl
 place-new k query (run ∷ runs) new from is of =
-    let other : (run.num == new.num) ≡ false = same-not run.num new.num (λ e. absurd (omega (arith, from.0, e, is))) in
+    let other : (run.num == new.num) ≡ false = ne_eqb run.num new.num (λ e. absurd (omega (arith, from.0, e, is))) in
     let rest = place-new (suc k) query runs new from.1 (omega (arith, is)) of in
     elim (cases_Bool (run.query.0 == query)) [
       | inl y ↦ rw (y, other) (one-more _ _ rest)
@@ -64,13 +58,13 @@ ordinal-new query runs new from is of =
 pub moments-new : (query : ℕ) (runs : List RunRow) (new : RunRow) → new.query.0 ≡ query
     → run_moments query (runs ++ new ∷ []) ≡ run_moments query runs ++ new.moment ∷ []
 moments-new query runs new of =
-    rw (filter-append (λ run. run.query.0 == query) runs (new ∷ []), same-yes new.query.0 query of)
+    rw (filter-append (λ run. run.query.0 == query) runs (new ∷ []), eq-eqb new.query.0 query of)
     (map-append (λ run. run.moment) (runs_of query runs) (new ∷ []))
 
 pub moments-other : (query : ℕ) (runs : List RunRow) (new : RunRow) → (new.query.0 ≡ query → ⊥)
     → run_moments query (runs ++ new ∷ []) ≡ run_moments query runs
 moments-other query runs new other =
-    ap (map (λ run. run.moment)) (filter-none (λ run. run.query.0 == query) runs (new ∷ []) (same-not new.query.0 query other, tt))
+    ap (map (λ run. run.moment)) (filter-none (λ run. run.query.0 == query) runs (new ∷ []) (ne_eqb new.query.0 query other, tt))
 
 -- the picks of earlier runs are the entries that they were
 pub old-picks : (query : ℕ) (runs : List RunRow) (new : RunRow) (picks : List Pick) → Each (λ pick. HasRun pick.run pick.query.0 runs) picks
@@ -87,12 +81,12 @@ old-picks query runs new (pick ∷ picks) each =
 pub picks-all : (num : ℕ) (query : QueryNum) (run : ℕ) (hits : List Hit)
     → picks_of query.0 (pick_rows num query run hits) ≡ pick_rows num query run hits
 picks-all num query run [] = refl
-picks-all num query run (hit ∷ hits) = rw (same-yes query.0 query.0 refl, picks-all (num + 1) query run hits) refl
+picks-all num query run (hit ∷ hits) = rw (eq-eqb query.0 query.0 refl, picks-all (num + 1) query run hits) refl
 
 pub picks-none : (other num : ℕ) (query : QueryNum) (run : ℕ) (hits : List Hit) → (query.0 ≡ other → ⊥)
     → Each (λ pick. (pick.query.0 == other) ≡ false) (pick_rows num query run hits)
 picks-none other num query run [] differs = tt
-picks-none other num query run (hit ∷ hits) differs = (same-not query.0 other differs, picks-none other (num + 1) query run hits differs)
+picks-none other num query run (hit ∷ hits) differs = (ne_eqb query.0 other differs, picks-none other (num + 1) query run hits differs)
 
 -- they are the hits as entries of the run
 pub new-picks : (runs : List RunRow) (num : ℕ) (query : QueryNum) (run k : ℕ) (hits : List Hit) → run_ordinal run query.0 runs ≡ k
@@ -137,7 +131,7 @@ query-bounds k (first ∷ queries) query from (inr h) =
 -- no run belongs to a query that is not there yet
 pub runs-none : (query : ℕ) (runs : List RunRow) → Each (λ run. run.query.0 < query) runs → runs_of query runs ≡ []
 runs-none query [] each = refl
-runs-none query (run ∷ runs) each = rw (same-not run.query.0 query (λ e. absurd (omega (arith, e, each.0)))) (runs-none query runs each.1)
+runs-none query (run ∷ runs) each = rw (ne_eqb run.query.0 query (λ e. absurd (omega (arith, e, each.0)))) (runs-none query runs each.1)
 
 run-owned : (query n : ℕ) (runs : List RunRow) (num : ℕ) → HasRun num query runs → Each (λ run. run.query.0 ≤ n) runs → query ≤ n
 run-owned query n [] num has each = absurd has
@@ -149,4 +143,4 @@ pub no-picks : (query n : ℕ) (runs : List RunRow) (picks : List Pick) → n < 
 no-picks query n runs [] lt owned each = refl
 no-picks query n runs (pick ∷ picks) lt owned each =
     let le = run-owned pick.query.0 n runs pick.run each.0 owned in
-    rw (same-not pick.query.0 query (λ e. absurd (omega (arith, e, le)))) (no-picks query n runs picks lt owned each.1)
+    rw (ne_eqb pick.query.0 query (λ e. absurd (omega (arith, e, le)))) (no-picks query n runs picks lt owned each.1)

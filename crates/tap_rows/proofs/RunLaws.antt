@@ -1,7 +1,7 @@
 -- A box after one more run: what it held, and what the run delivers.
 use Rattle.std.proofs.Common.{◌≡◌, ◌∙◌, sym, ap, refl, arith, ℕ, suc, ◌+◌, ◌≤◌, ◌<◌, ℤ, true, false, Option, Some, None, List, [], ◌∷◌}
 use Rattle.std.proofs.Common.{◌++◌, length, map, if◌then◌else◌}
-use Rattle.std.specs.Prelude.{◌==◌, ◌≤ℤ◌, ◌<ℤ◌, int_le, int_lt, filter}
+use Rattle.std.specs.Prelude.{◌==◌, ◌≤ℤ◌, ◌<ℤ◌, int_le, filter}
 use Rattle.std.specs.List.{filter_map, cons_option}
 use Rattle.std.proofs.lemmas.Int.{ints, by_lt_z}
 use Rattle.std.proofs.lemmas.List.{append_assoc, append-nil}
@@ -14,16 +14,11 @@ use Rattle.tap_rows.specs.Results.{Truth, is_given, first_second, hit_of, at_lea
 use Rattle.tap_rows.specs.Results.{entries_of, entries_from, last_or, run_moments, covered, union_until, fresh_in, box_of}
 use Rattle.tap_rows.proofs.SecondsLaws.{least_second-within}
 use Rattle.tap_rows.proofs.UnionLaws.{is_from, is_earlier, fresh-part, union-part}
+use Rattle.tap_rows.proofs.Tests.{lt_yes, lt_not, le_yes, le_not, nat_itself}
 
 pub rising-le : (low : ℤ) (ms : List ℤ) → Rising low ms → low ≤ℤ last_or low ms
 rising-le low [] rising = omega (arith, ints)
 rising-le low (m ∷ ms) rising = let rest = rising-le m ms rising.1 in omega (arith, ints, rising.0)
-
-above : (f m : ℤ) → f <ℤ m → int_lt f m ≡ true
-above f m lt = grind (arith, ints)
-
-not-above : (f m : ℤ) → m ≤ℤ f → int_lt f m ≡ false
-not-above f m le = grind (arith, ints)
 
 -- a second below the last run belongs to the run that it had
 run-early : (low f t : ℤ) (ms : List ℤ) → Rising low ms → low ≤ℤ f → f <ℤ last_or low ms
@@ -31,15 +26,15 @@ run-early : (low f t : ℤ) (ms : List ℤ) → Rising low ms → low ≤ℤ f �
 run-early low f t [] rising from below = absurd (omega (arith, ints))
 run-early low f t (m ∷ ms) rising from below =
     by_lt_z f m
-    (λ lt. rw (above f m lt) (refl, omega arith))
-    (λ ge. let rest = run-early m f t ms rising.1 ge below in rw (not-above f m ge) (ap suc rest.0, omega (arith, rest.1)))
+    (λ lt. rw (lt_yes f m lt) (refl, omega arith))
+    (λ ge. let rest = run-early m f t ms rising.1 ge below in rw (lt_not f m ge) (ap suc rest.0, omega (arith, rest.1)))
 
 -- a second from the last run on belongs to the new one
 run-late : (low f t : ℤ) (ms : List ℤ) → Rising low ms → last_or low ms ≤ℤ f → f <ℤ t → run_of f (ms ++ t ∷ []) ≡ length ms + 1
-run-late low f t [] rising from below = rw (above f t below) (omega arith)
+run-late low f t [] rising from below = rw (lt_yes f t below) (omega arith)
 run-late low f t (m ∷ ms) rising from below =
     let le = rising-le m ms rising.1 in
-    rw (not-above f m (omega (arith, ints)), run-late m f t ms rising.1 from below) (omega arith)
+    rw (lt_not f m (omega (arith, ints)), run-late m f t ms rising.1 from below) (omega arith)
 
 -- hits of seconds from low up to but without t
 abbrev pub Within : ℤ → ℤ → List Hit → Type 0
@@ -52,9 +47,6 @@ less a b lt = grind arith
 more : (a b : ℕ) → a < b → (a == b) ≡ false
 more a b lt = grind arith
 
-same : (a : ℕ) → (a == a) ≡ true
-same a = grind arith
-
 -- the hits of an earlier run stay
 old-hits : (ms : List ℤ) (low t : ℤ) (run : ℕ) (hits : List Hit) → Rising low ms → run ≤ length ms → Within low t hits
     → filter (λ hit. run_of hit.first (ms ++ t ∷ []) == run) hits
@@ -63,20 +55,14 @@ old-hits ms low t run [] rising le within = refl
 old-hits ms low t run (hit ∷ hits) rising le within =
     by_lt_z hit.first (last_or low ms)
     (λ lt. let early = run-early low hit.first t ms rising within.0 lt in
-    rw (above hit.first (last_or low ms) lt, early.0, old-hits ms low t run hits rising le within.2) refl)
+    rw (lt_yes hit.first (last_or low ms) lt, early.0, old-hits ms low t run hits rising le within.2) refl)
     (λ ge. let late = run-late low hit.first t ms rising ge within.1 in
     rw (
-      not-above hit.first (last_or low ms) ge,
+      lt_not hit.first (last_or low ms) ge,
       late,
       less run (length ms + 1) (omega arith),
       old-hits ms low t run hits rising le within.2,
     ) refl)
-
-le-yes : (a s : ℤ) → a ≤ℤ s → int_le a s ≡ true
-le-yes a s h = grind (arith, ints)
-
-le-not : (a s : ℤ) → s <ℤ a → int_le a s ≡ false
-le-not a s h = grind (arith, ints)
 
 -- the hits of the new run are those from the last run on
 new-hits : (ms : List ℤ) (low t : ℤ) (hits : List Hit) → Rising low ms → Within low t hits
@@ -86,13 +72,13 @@ new-hits ms low t (hit ∷ hits) rising within =
     by_lt_z hit.first (last_or low ms)
     (λ lt. let early = run-early low hit.first t ms rising within.0 lt in
     rw (
-      le-not (last_or low ms) hit.first lt,
+      le_not (last_or low ms) hit.first lt,
       early.0,
       more (run_of hit.first ms) (length ms + 1) (omega (arith, early.1)),
       new-hits ms low t hits rising within.2,
     ) refl)
     (λ ge. let late = run-late low hit.first t ms rising ge within.1 in
-    rw (le-yes (last_or low ms) hit.first ge, late, same (length ms + 1), new-hits ms low t hits rising within.2) refl)
+    rw (le_yes (last_or low ms) hit.first ge, late, nat_itself (length ms + 1), new-hits ms low t hits rising within.2) refl)
 
 entries_from-append : (mm : List ℤ) (hits : List Hit) (k : ℕ) (ms : List ℤ) (m : ℤ)
     → entries_from mm hits k (ms ++ m ∷ []) ≡ entries_from mm hits k ms ++ entries_of mm hits (k + length ms)

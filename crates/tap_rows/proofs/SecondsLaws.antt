@@ -1,11 +1,12 @@
 -- What the search for the least second finds.
-use Rattle.std.proofs.Common.{◌≡◌, ◌∙◌, ap, refl, arith, ℕ, zero, suc, ◌+◌, ℤ, pos, negsuc, Bool, true, false, Some, None, inl, inr}
+use Rattle.std.proofs.Common.{◌≡◌, ◌∙◌, sym, ap, refl, arith, ℕ, zero, suc, ◌+◌, ℤ, pos, negsuc, Bool, true, false, Some, None, inl, inr}
 use Rattle.std.specs.Prelude.{◌+ℤ◌, ◌≤ℤ◌, ◌<ℤ◌}
 use Rattle.std.specs.Int.{int_gap}
 use Rattle.std.specs.Option.{option_or}
 use Rattle.std.proofs.lemmas.Bool.{cases_Bool}
 use Rattle.std.proofs.lemmas.Int.{ints, by_lt_z}
 use Rattle.tap_rows.specs.Seconds.{first_from, least_second}
+use Rattle.tap_rows.proofs.Tests.{some_same}
 
 -- none of the seconds tried passes
 pub first_from-none : (p : ℤ → Bool) (n : ℕ) (a x : ℤ) → first_from p n a ≡ None → a ≤ℤ x → x <ℤ (a +ℤ pos n) → p x ≡ false
@@ -35,9 +36,15 @@ first_from-within p (suc n) a f h =
           let r = first_from-within p n (a +ℤ pos 1) f (rw z at h) in
           (omega (arith, ints, r.0), omega (arith, ints, r.1))
     ]
-  where
-    some_same : {x y : ℤ} → Some x ≡ Some y → x ≡ y
-    some_same e = cc
+
+-- what is found passes
+pub first_from-passes : (p : ℤ → Bool) (n : ℕ) (a f : ℤ) → first_from p n a ≡ Some f → p f ≡ true
+first_from-passes p zero a f h = absurd cc
+first_from-passes p (suc n) a f h =
+    elim (cases_Bool (p a)) [
+      | inl y ↦ ap p (sym (some_same (rw y at h))) ∙ y
+      | inr z ↦ first_from-passes p n (a +ℤ pos 1) f (rw z at h)
+    ]
 
 -- a test that holds nowhere is found nowhere
 pub first_from-never : (p : ℤ → Bool) (n : ℕ) (a : ℤ) → ((x : ℤ) → a ≤ℤ x → x <ℤ (a +ℤ pos n) → p x ≡ false) → first_from p n a ≡ None

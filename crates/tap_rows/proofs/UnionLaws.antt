@@ -1,5 +1,5 @@
 -- What is fresh, and what was given up to an earlier second, as parts of the union, for every condition.
-use Rattle.std.proofs.Common.{◌≡◌, sym, refl, arith, ℤ, Bool, true, false, Option, Some, None, List, [], ◌∷◌, inl, inr}
+use Rattle.std.proofs.Common.{◌≡◌, sym, refl, arith, ℤ, Bool, Option, Some, None, List, [], ◌∷◌, inl, inr}
 use Rattle.std.specs.Prelude.{◌≤ℤ◌, ◌<ℤ◌, int_le, int_lt, filter}
 use Rattle.std.specs.List.{filter_map, cons_option}
 use Rattle.std.specs.Option.{option_or}
@@ -12,6 +12,7 @@ use Rattle.tap_rows.specs.Seconds.{least_second}
 use Rattle.tap_rows.specs.Results.{Truth, is_given, first_second, hit_of, at_least, fresh_in, union_until}
 use Rattle.tap_rows.proofs.SecondsLaws.{least_second-within, least_second-more}
 use Rattle.tap_rows.proofs.OrderLaws.{in_order-filter}
+use Rattle.tap_rows.proofs.Tests.{le_yes, lt_yes, lt_not}
 
 -- is the hit's first second not below tau?
 abbrev pub is_from : ℤ → Hit → Bool
@@ -25,20 +26,11 @@ is_earlier last hit = int_lt hit.first last
 abbrev hit_at : Doc → ℤ → Hit
 hit_at doc second = record { doc = doc.num; first = second }
 
-le-yes : (a s : ℤ) → a ≤ℤ s → int_le a s ≡ true
-le-yes a s h = grind (arith, ints)
-
-lt-yes : (a s : ℤ) → a <ℤ s → int_lt a s ≡ true
-lt-yes a s h = grind (arith, ints)
-
-lt-not : (a s : ℤ) → s ≤ℤ a → int_lt a s ≡ false
-lt-not a s h = grind (arith, ints)
-
 -- a found second that is not below the start
 part-found : (tau start : ℤ) (doc : Doc) (f : ℤ) (hits : List Hit) → start ≤ℤ f → cons_option (hit_of doc (at_least tau (Some f)))
     (filter (is_from tau) hits) ≡ filter (is_from tau) (cons_option (hit_of doc (at_least start (Some f))) hits)
 part-found tau start doc f hits from =
-    rw (le-yes start f from) (elim (cases_Bool (int_le tau f)) [ inl y ↦ rw y refl | inr n ↦ rw n refl ])
+    rw (le_yes start f from) (elim (cases_Bool (int_le tau f)) [ inl y ↦ rw y refl | inr n ↦ rw n refl ])
 
 hit-part : (truth : Truth) (tables : Tables) (start tau t : ℤ) (doc : Doc) (hits : List Hit)
     → cons_option (hit_of doc (at_least tau (first_second truth tables doc start t))) (filter (is_from tau) hits)
@@ -67,9 +59,9 @@ earlier-found : (start last : ℤ) (doc : Doc) (found more : Option ℤ) (hits :
     → ((f : ℤ) → found ≡ Some f → (start ≤ℤ f) × (f <ℤ last)) → ((f : ℤ) → more ≡ Some f → (start ≤ℤ f) × (last ≤ℤ f))
     → cons_option (hit_of doc (at_least start found)) (filter (is_earlier last) hits)
     ≡ filter (is_earlier last) (cons_option (hit_of doc (at_least start (option_or found more))) hits)
-earlier-found start last doc (Some f) more hits early late = let w = early f refl in rw (le-yes start f w.0, lt-yes f last w.1) refl
+earlier-found start last doc (Some f) more hits early late = let w = early f refl in rw (le_yes start f w.0, lt_yes f last w.1) refl
 earlier-found start last doc None None hits early late = refl
-earlier-found start last doc None (Some f) hits early late = let w = late f refl in rw (le-yes start f w.0, lt-not f last w.1) refl
+earlier-found start last doc None (Some f) hits early late = let w = late f refl in rw (le_yes start f w.0, lt_not f last w.1) refl
 
 hit-earlier : (truth : Truth) (tables : Tables) (start last t : ℤ) (doc : Doc) (hits : List Hit) → start ≤ℤ last → last ≤ℤ t
     → cons_option (hit_of doc (at_least start (first_second truth tables doc start last))) (filter (is_earlier last) hits)

@@ -128,7 +128,7 @@ answered-leaves t left left' out out' versions tells leaves bytes cs s' ok taken
     story-leaves t left left' out out' versions leaves bytes cs one.replies one.tables' s' (flat_map reply_bytes one.replies) taken first
     one.story one.written (λ v has known. all-said one.replies) one.ends.exact
 
-all-of : (cs : List Command) → IsPrefix cs cs
+pub all-of : (cs : List Command) → IsPrefix cs cs
 all-of cs = record { rest = []; is = sym (append-nil cs) }
 
 whole-leaves : (t : Tables) (left left' out out' : Option (List ℕ)) (versions : ℤ → Type 0) (tells leaves : Tables → Type 0) (ok : Bool)

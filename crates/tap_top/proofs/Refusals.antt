@@ -1,13 +1,12 @@
 -- When a store is refused, and the line that is put then.
-use Rattle.std.proofs.Common.{◌≡◌, ◌≢◌, ◌∙◌, sym, ap, refl, subst, ℕ, ℤ, pos, List, [], ◌∷◌, length, Bool, true, false, Option, Some, None}
-use Rattle.std.proofs.Common.{Err, inl, inr, if◌then◌else◌}
-use Rattle.std.specs.Prelude.{◌⊎◌, is_some, Result, Ok, IsOk}
+use Rattle.std.proofs.Common.{◌≡◌, ◌≢◌, ◌∙◌, sym, refl, subst, ℕ, ℤ, pos, List, [], ◌∷◌, length, Bool, true, false, Option, Some, None}
+use Rattle.std.proofs.Common.{Err, inl, inr}
+use Rattle.std.specs.Prelude.{◌⊎◌, Result, Ok, IsOk}
 use Rattle.std.specs.Io.KnownBytes.{Appends}
 use Rattle.std.proofs.Math.Seq.{take-length}
 use Rattle.tap_edges.proofs.Puts.{Appends-none}
 use Rattle.tap_rows.specs.declared.tables.Tables.{Tables}
 use Rattle.tap_rows.specs.declared.rows.QueryRow.{QueryRow}
-use Rattle.tap_rows.specs.declared.rows.FilterRow.{FilterRow}
 use Rattle.tap_rows.specs.Kept.{Each}
 use Rattle.tql_core.specs.Condition.{Condition}
 use Rattle.tql_text.specs.declared.fault.TextFault.{TextFault}
@@ -16,10 +15,10 @@ use Rattle.restart_core.specs.Starts.{condition_text}
 use Rattle.restart_core.specs.Damages.{is_condition, is_readable}
 use Rattle.restart_core.proofs.DamageLaws.{undamaged}
 use Rattle.tap_model.specs.Sound.{IsStore}
-use Rattle.tap_model.specs.Verdicts.{text_fault, filter_fault}
+use Rattle.tap_model.specs.Verdicts.{text_fault}
 use Rattle.tap_model.proofs.StoreLaws.{text-read}
-use Rattle.tap_kept.specs.Starting.{first_unread}
 use Rattle.tap_engine.specs.declared.engine.Engine.{Engine}
+use Rattle.tap_engine.proofs.StartedLaws.{none-unread}
 use Rattle.tap_top.specs.declared.store_fault.StoreFault.{StoreFault}
 use Rattle.tap_top.specs.declared.opening.OpenFault.{OpenFault}
 use Rattle.tap_top.specs.declared.opening.OpenFault.TheVariants.{Refused as RefusedStore}
@@ -44,14 +43,9 @@ each-readable (query ∷ queries) each = (
   each-readable queries each.1,
 )
 
-all-read : (filters : List FilterRow) → Each (λ filter. filter_fault filter.source ≡ None) filters → first_unread filters ≡ None
-all-read [] each = refl
-all-read (filter ∷ filters) each = ap (λ fault. if is_some fault then Some filter.num else first_unread filters) each.0
-    ∙ all-read filters each.1
-
 -- the tables that a session left have none
 store-fault : (t : Tables) → IsStore t → row_fault t ≡ None
-store-fault t store = rw (undamaged t store.formed (each-readable t.queries store.sources), all-read t.filters store.rules) refl
+store-fault t store = rw (undamaged t store.formed (each-readable t.queries store.sources), none-unread t.filters store.rules) refl
 
 pub fine-store : (t : Tables) (v : ℤ) → IsStore t → (v ≡ pos 1) ⊎ (v ≡ pos 2) → fault_of v t ≡ None
 fine-store t v store known = known-fault v t known ∙ store-fault t store

@@ -1,7 +1,6 @@
 -- What a crash leaves after each end of a sample.
-use Rattle.std.proofs.Common.{◌≡◌, sym, refl, arith, ℕ, List, [], ◌∷◌, ◌++◌, length, Bool, Option, inl, inr, ◌≤◌}
+use Rattle.std.proofs.Common.{◌≡◌, refl, arith, ℕ, List, [], ◌∷◌, ◌++◌, length, Bool, Option, inl, inr, ◌≤◌}
 use Rattle.std.specs.Prelude.{◌⊎◌}
-use Rattle.std.proofs.lemmas.List.{append-nil}
 use Rattle.tap_rows.specs.declared.tables.Tables.{Tables}
 use Rattle.script_lang.specs.declared.command.Command.{Command}
 use Rattle.script_lang.specs.declared.reply.Reply.{Reply}
@@ -14,7 +13,7 @@ use Rattle.tap_model.specs.Stories.{Story}
 use Rattle.keeper_core.specs.Keeping.{IsDurable}
 use Rattle.tap_top.specs.Samples.{Performed, FirstPerformed, NextUncommitted, Sampled, SampledCut, LeavesFirst, LeavesOnly}
 use Rattle.tap_top.proofs.Stories.{Story-then}
-use Rattle.tap_top.proofs.Crashes.{whole-prefix, front-prefix, story-store}
+use Rattle.tap_top.proofs.Crashes.{whole-prefix, front-prefix, story-store, all-of}
 use Rattle.tap_base.specs.Prefixes.{IsPrefix}
 
 no-less : (n : ℕ) → 0 ≤ n
@@ -43,9 +42,6 @@ exact-leaves t cs leaves exact = record {
   story = (refl, refl);
   each = λ x may. whole-prefix t [] [] t no_session 0 x (refl, refl) (no-less 0) (exact x may);
 }
-
-all-front : (cs : List Command) → IsPrefix cs cs
-all-front cs = record { rest = []; is = sym (append-nil cs) }
 
 next-leaves : (t : Tables) (cs : List Command) (leaves : Tables → Type 0) → NextUncommitted t no_session cs leaves → LeavesFirst t cs leaves
 next-leaves t cs leaves run =
@@ -82,10 +78,10 @@ pub sample-leaves : (t : Tables) (n : ℕ) (out out' : Option (List ℕ)) (tells
     → (status ≡ 7 → FirstPerformed t no_session (sample_of n) (IsDurable tells leaves)) → LeavesFirst t (sample_of n) leaves
 sample-leaves t n out out' tells leaves ok status (inl low) whole cut next short =
     let run = whole low in
-    performed-leaves t (sample_of n) (sample_of n) _ run.session' leaves (all-front (sample_of n)) run.performed run.performed.ends.1.exact
+    performed-leaves t (sample_of n) (sample_of n) _ run.session' leaves (all-of (sample_of n)) run.performed run.performed.ends.1.exact
 sample-leaves t n out out' tells leaves ok status (inr (inl is)) whole cut next short =
     let run = cut is in
-    performed-leaves t (sample_of n) (sample_of n) _ run.session' leaves (all-front (sample_of n)) run.performed run.performed.ends.1.exact
+    performed-leaves t (sample_of n) (sample_of n) _ run.session' leaves (all-of (sample_of n)) run.performed run.performed.ends.1.exact
 sample-leaves t n out out' tells leaves ok status (inr (inr (inl is))) whole cut next short = next-leaves t (sample_of n) leaves (next is)
 sample-leaves t n out out' tells leaves ok status (inr (inr (inr is))) whole cut next short =
     let run = short is in

@@ -11,10 +11,11 @@ use Rattle.tap_rows.specs.Results.{visible}
 use Rattle.tql_core.specs.Values.{Env, bind, on_row, plus_to, value, both}
 use Rattle.tql_core.specs.Holds.{truth}
 use Rattle.tql_core.specs.Scope.{Scoped}
+use Rattle.tql_core.proofs.Bound.{bind_same}
 use Rattle.time_marks.specs.Marks.{copy_term, arrival_term, body}
 use Rattle.time_marks.specs.Laws.{Same}
 use Rattle.time_marks.proofs.Lists.{any_same, any_visible}
-use Rattle.time_marks.proofs.Envs.{same_bind, bind_same, value_same, atom_same, copy_stays}
+use Rattle.time_marks.proofs.Envs.{same_bind, value_same, atom_same, copy_stays}
 use Rattle.time_marks.proofs.Crossing.{plus_none}
 
 at_least_turned : (o : Option ℤ) (b : ℤ) → both Ge (Some b) o ≡ both Le o (Some b)

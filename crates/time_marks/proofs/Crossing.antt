@@ -15,13 +15,14 @@ use Rattle.tap_rows.specs.Results.{visible}
 use Rattle.tql_core.specs.Values.{Env, bind, on_row, plus_to, value, both, true_atom}
 use Rattle.tql_core.specs.Holds.{truth}
 use Rattle.tql_core.specs.Scope.{Scoped}
+use Rattle.tql_core.proofs.Bound.{bind_same}
 use Rattle.tap_rows.specs.Kept.{In}
 use Rattle.time_marks.specs.declared.mark.Mark.{Mark}
 use Rattle.time_marks.specs.Marks.{copy, copy_term, arrival_term, step_of, under_step, mark_if, marks}
 use Rattle.time_marks.specs.Laws.{Keeps, Crossed}
 use Rattle.time_marks.proofs.Lists.{in_map, in_left, in_right, visible_in, visible_none}
 use Rattle.time_marks.proofs.Seconds.{reached, still, passed, not_back}
-use Rattle.time_marks.proofs.Envs.{keeps_bind, keeps_unbind, bind_same, value_copy, guards_hold}
+use Rattle.time_marks.proofs.Envs.{keeps_bind, keeps_unbind, value_copy, guards_hold}
 
 no_change : (up b : Bool) → b ≡ not up → b ≡ up → ⊥
 no_change true b h k = both_ways b h k

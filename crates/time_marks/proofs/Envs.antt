@@ -2,7 +2,7 @@
 use Rattle.std.proofs.Common.{◌≡◌, ℕ, zero, suc, ◌≤◌, ℤ, true, Some, List, [], ◌∷◌, ◌++◌, refl, sym, ap, ◌∙◌, subst, inl, inr, arith}
 use Rattle.std.specs.Prelude.{◌+ℤ◌, map}
 use Rattle.std.specs.List.{list_all}
-use Rattle.std.proofs.lemmas.Bool.{cases_eq, eq-eqb, ne_eqb, and_parts}
+use Rattle.std.proofs.lemmas.Bool.{cases_eq, and_parts}
 use Rattle.tql_core.specs.declared.term.Var.{Var}
 use Rattle.tql_core.specs.declared.term.Base.{Base}
 use Rattle.tql_core.specs.declared.term.Base.TheVariants.{Arrival, Date, Fixed, ArrivalDay, DateDay}
@@ -20,16 +20,11 @@ use Rattle.tql_core.specs.Values.{Env, bind, lookup, on_row, round_up_to_day, da
 use Rattle.tql_core.specs.Values.{text, true_atom}
 use Rattle.tql_core.specs.Holds.{truth}
 use Rattle.tql_core.specs.Scope.{BaseIn, NumIn, TextIn, AtomIn, Scoped}
+use Rattle.tql_core.proofs.Bound.{bind_same, bind_other}
 use Rattle.tap_rows.specs.Kept.{In}
 use Rattle.time_marks.specs.Marks.{copied, copy, copy_base, copy_term, copy_number, copy_text, copy_atom, guards_of}
 use Rattle.time_marks.specs.Laws.{Keeps, Same}
 use Rattle.time_marks.proofs.Lists.{all_append}
-
-pub bind_same : (v : Var) (r : Row) (env : Env) → lookup v.0 (bind v r env) ≡ Some r
-bind_same v r env = rw (eq-eqb v.0 v.0 refl)
-
-pub bind_other : (k : ℕ) (v : Var) (r : Row) (env : Env) → (k ≡ v.0 → ⊥) → lookup k (bind v r env) ≡ lookup k env
-bind_other k v r env h = rw (ne_eqb k v.0 h)
 
 pub copied_back : (j k : ℕ) → copied j ≡ copied k → j ≡ k
 copied_back zero zero e = refl

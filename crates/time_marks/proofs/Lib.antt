@@ -1,3 +1,4 @@
+pub mod Depth
 pub mod Asked
 pub mod Lists
 pub mod Seconds
@@ -10,3 +11,4 @@ pub mod Paths
 pub mod Orders
 pub mod SeekLaws
 pub mod Repeats
+pub mod GrownPools

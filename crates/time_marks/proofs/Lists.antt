@@ -2,21 +2,13 @@
 use Rattle.std.proofs.Common.{◌≡◌, ℤ, Bool, true, false, List, [], ◌∷◌, ◌++◌, refl, sym, ap, ◌∙◌, inl, inr}
 use Rattle.std.specs.Prelude.{◌⊎◌, ◌&&◌, ◌||◌, map, int_le}
 use Rattle.std.specs.List.{list_any, list_all, filter}
-use Rattle.std.proofs.lemmas.Bool.{or_cases, cases_Bool, false≢true, and_parts, both_ways}
+use Rattle.std.proofs.lemmas.Bool.{or_cases, cases_Bool, false≢true, and_parts, both_ways, or_left, or_right}
 use Rattle.tql_tree.specs.declared.table.Table.{Table}
 use Rattle.tql_tree.specs.declared.table.Table.TheVariants.{Docs, Notes}
 use Rattle.tql_core.specs.Row.{Row, OfDoc, OfNote, arrival, rows_of}
 use Rattle.tap_rows.specs.declared.tables.Tables.{Tables}
 use Rattle.tap_rows.specs.Results.{visible}
 use Rattle.tap_rows.specs.Kept.{In}
-
-pub or_left : (a b : Bool) → a ≡ true → (a || b) ≡ true
-or_left true b h = refl
-or_left false b h = absurd (false≢true h)
-
-pub or_right : (a b : Bool) → b ≡ true → (a || b) ≡ true
-or_right true b h = refl
-or_right false b h = h
 
 -- an element that passes
 pub any_in : {A : Type 0} (p : A → Bool) (xs : List A) → list_any p xs ≡ true → (x : A) × In x xs × (p x ≡ true)

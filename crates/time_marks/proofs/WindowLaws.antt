@@ -1,20 +1,15 @@
 -- Seconds in windows that were met, moved, or turned into days.
-use Rattle.std.proofs.Common.{◌≡◌, ◌∙◌, sym, ap, refl, arith, zero, suc, ℤ, pos, negsuc, Bool, true, false, ◌+◌, ◌/◌}
+use Rattle.std.proofs.Common.{◌≡◌, ◌∙◌, sym, ap, refl, arith, zero, suc, ℤ, pos, negsuc, true, false, ◌+◌, ◌/◌}
 use Rattle.std.specs.Prelude.{◌+ℤ◌, ◌-ℤ◌, ◌*ℤ◌, ◌≤ℤ◌, ◌<ℤ◌, neg_ℤ, ◌&&◌, not, int_le, int_lt}
 use Rattle.std.proofs.lemmas.Int.{ints, by_lt_z}
+use Rattle.tap_rows.proofs.Tests.{and_swapped}
 use Rattle.tql_core.specs.Values.{round_up_to_day}
 use Rattle.time_marks.specs.declared.window.Window.{Window}
 use Rattle.time_marks.specs.Windows.{is_within, moved, days_window}
 
-four : (a b c d : Bool) → ((a && b) && (c && d)) ≡ ((a && c) && (b && d))
-four false b c d = refl
-four true false true d = refl
-four true false false d = refl
-four true true c d = refl
-
 pub met : (a b : Window) (low high x : ℤ) → int_le low x ≡ (int_le a.low x && int_le b.low x)
     → int_lt x high ≡ (int_lt x a.high && int_lt x b.high) → (int_le low x && int_lt x high) ≡ (is_within a x && is_within b x)
-met a b low high x l h = rw (l, h) (four (int_le a.low x) (int_le b.low x) (int_lt x a.high) (int_lt x b.high))
+met a b low high x l h = rw (l, h) (and_swapped (int_le a.low x) (int_le b.low x) (int_lt x a.high) (int_lt x b.high))
 
 moved-low : (low by x : ℤ) → int_le (low +ℤ by) x ≡ int_le low (x -ℤ by)
 moved-low low by x = grind (arith, ints)

@@ -10,8 +10,8 @@ use tql_core::{Atom, Base, NumExpr, Term, TextExpr, Var};
 // What is added to a variable's number for its copy in a path.
 const COPY_OFFSET: u8 = 8;
 
-// Returns the variable's copy in a path; `m` is its own copy.
-pub(crate) fn copy(var: Var) -> Var
+/// Returns the copy in a path of a variable of a query; `m` is its own copy.
+pub fn copy(var: Var) -> Var
     requires { var.0 ≤ 5 }
     ensures { result ≡ copy var }
 {

@@ -12,6 +12,7 @@ mod seek;
 mod window;
 mod window_query;
 
+pub use copies::copy;
 pub use mark::{Mark, Step};
 pub use probe::Probe;
 pub use ranged::Ranged;

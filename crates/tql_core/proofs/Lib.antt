@@ -1,3 +1,4 @@
+pub mod Bound
 pub mod OfTheSecond
 pub mod Growth
 pub mod Equal

@@ -19,5 +19,5 @@ pub use env::Env;
 pub use row_ref::RowRef;
 pub use term::{Base, Term, Var};
 pub use tnode::TNode;
-pub use tnode_pool::node_at;
+pub use tnode_pool::{intern_node, node_at};
 pub use values::value;

@@ -4,9 +4,9 @@ use Rattle.std.proofs.Common.{if◌then◌else◌}
 use Rattle.std.specs.Prelude.{◌||◌}
 use Rattle.std.specs.List.{list_any}
 use Rattle.std.specs.Str.{bytes_eq}
-use Rattle.std.specs.Cmp.Lexicographic.{bytes_decides}
 use Rattle.std.proofs.lemmas.Int.{ints}
-use Rattle.std.proofs.lemmas.Bool.{true≢false}
+use Rattle.std.proofs.lemmas.Bool.{true≢false, or_left}
+use Rattle.tap_rows.proofs.Tests.{bytes_same, bytes_flip, pos_same}
 
 abbrev pub Ballot : Type 0
 Ballot = List ℕ × ℤ
@@ -30,27 +30,9 @@ abbrev Unique : List Ballot → Type 0
 Unique [] = Unit {0}
 Unique (b ∷ bs) = (has b.0 bs ≡ false) × Unique bs
 
-pub bytes_same : (a b : List ℕ) → bytes_eq a b ≡ true → a ≡ b
-bytes_same a b e = (bytes_decides a b).0 e
-
-pub bytes_self : (a : List ℕ) → bytes_eq a a ≡ true
-bytes_self a = (bytes_decides a a).1 refl
-
-pub bytes_flip : (a b : List ℕ) → bytes_eq a b ≡ bytes_eq b a
-bytes_flip a b = go (bytes_eq a b) (bytes_eq b a) refl refl where
-  go : (s t : Bool) → bytes_eq a b ≡ s → bytes_eq b a ≡ t → bytes_eq a b ≡ bytes_eq b a
-  go true true p q = p ∙ sym q
-  go false false p q = p ∙ sym q
-  go true false p q = absurd (true≢false (sym ((bytes_decides b a).1 (sym (bytes_same a b p))) ∙ q))
-  go false true p q = absurd (true≢false (sym ((bytes_decides a b).1 (sym (bytes_same b a q))) ∙ p))
-
 or_no : (a b : Bool) → a ≡ false → (a || b) ≡ b
 or_no true b e = absurd (true≢false e)
 or_no false b e = refl
-
-or_yes : (a b : Bool) → a ≡ true → (a || b) ≡ true
-or_yes true b e = refl
-or_yes false b e = absurd (true≢false (sym e))
 
 or_first : (a b : Bool) → (a || b) ≡ false → a ≡ false
 or_first true b e = absurd (true≢false e)
@@ -120,7 +102,7 @@ module _ (weight : ℤ → ℤ) where
     same e = by (has b.0 later) (ap (λ a. has a later) (bytes_same new.0 b.0 e))
         (unseen new later bs (ap (λ a. has a bs) (bytes_same new.0 b.0 e) ∙ u.0)) where
           seen : rest (new ∷ later) (b ∷ bs) ≡ rest (new ∷ later) bs
-          seen = ap (λ t. if t then rest (new ∷ later) bs else weight b.1 +ℤ rest (new ∷ later) bs) (or_yes _ _ (bytes_flip b.0 new.0 ∙ e))
+          seen = ap (λ t. if t then rest (new ∷ later) bs else weight b.1 +ℤ rest (new ∷ later) bs) (or_left _ _ (bytes_flip b.0 new.0 ∙ e))
 
           by : (t : Bool) → has new.0 later ≡ t → rest (new ∷ later) bs ≡ rest later bs
               → (if t then rest later bs else weight new.1 +ℤ rest later bs) ≡ own new later +ℤ rest (new ∷ later) (b ∷ bs)
@@ -175,9 +157,6 @@ module _ (weight : ℤ → ℤ) where
 ones : (bs : List Ballot) → weigh (λ value. pos 1) bs ≡ pos (length bs)
 ones [] = refl
 ones (b ∷ bs) = let i = ones bs in omega (arith, ints, i)
-
-pos_same : (m n : ℕ) → pos m ≡ pos n → m ≡ n
-pos_same m n e = omega (arith, ints, e)
 
 -- and are as many
 pub all_count : (new : List Ballot) → length (fold (λ done b. put b done) [] new) ≡ length (lasts new)

@@ -4,12 +4,13 @@ use Rattle.std.proofs.Common.{Some, None, inl, inr, if◌then◌else◌}
 use Rattle.std.specs.Prelude.{◌⊎◌, ◌&&◌, ◌==◌}
 use Rattle.std.specs.Str.{bytes_eq}
 use Rattle.std.proofs.lemmas.Int.{ints}
-use Rattle.std.proofs.lemmas.Bool.{true≢false}
+use Rattle.std.proofs.lemmas.Bool.{true≢false, eqb-true}
 use Rattle.tap_base.specs.declared.numbers.DocNum.{DocNum}
 use Rattle.tap_rows.specs.declared.rows.Note.{Note}
 use Rattle.tap_rows.specs.Kept.{In}
 use Rattle.tap_rows.specs.declared.score.Score.{Score}
 use Rattle.tap_rows.specs.Votes.{votes_on, sum_of, score_by}
+use Rattle.tap_rows.proofs.Tests.{nat_flip}
 use Rattle.vote_scores.specs.Tally.{Vote, tally}
 use Rattle.vote_scores.specs.Counts.{with_vote_counted, counted_if, counted_from, ScoresAreApart}
 use Rattle.vote_scores.proofs.Ballots.{Ballot, weigh}
@@ -30,14 +31,8 @@ abbrev scored : ℕ → Option Score → List Ballot → Option Score
 scored doc score [] = score
 scored doc score (b ∷ bs) = scored doc (Some (grown doc b.1 score)) bs
 
-same_number : (m n : ℕ) → (m == n) ≡ true → m ≡ n
-same_number m n e = grind (arith, e)
-
 own_number : (n : ℕ) → (n == n) ≡ true
 own_number n = grind arith
-
-flipped : (m n : ℕ) → (m == n) ≡ (n == m)
-flipped m n = grind arith
 
 found_same : (doc : ℕ) (value : ℤ) (scores : List Score)
     → found doc (with_vote_counted doc value scores) ≡ Some (grown doc value (found doc scores))
@@ -57,7 +52,7 @@ found_other doc other value (score ∷ scores) e = go (other == score.doc.0) ref
       → found doc (if b then record score { voters = score.voters + 1; sum = score.sum +ℤ value } ∷ scores
       else score ∷ with_vote_counted other value scores) ≡ (if doc == score.doc.0 then Some score else found doc scores)
   go true q i =
-      let no : (doc == score.doc.0) ≡ false = ap (λ n. doc == n) (sym (same_number other score.doc.0 q)) ∙ e in
+      let no : (doc == score.doc.0) ≡ false = ap (λ n. doc == n) (sym (eqb-true other score.doc.0 q)) ∙ e in
       ap (λ b. if b then Some (grown other value (Some score)) else found doc scores) no
       ∙ sym (ap (λ b. if b then Some score else found doc scores) no)
   go false q i = ap (λ rest. if doc == score.doc.0 then Some score else rest) i
@@ -72,11 +67,11 @@ found_from kind doc scores (vote ∷ votes) = found_from kind doc (counted_if ki
           ≡ scored doc (found doc scores) (if k && d then (vote.author, vote.value) ∷ ballots kind doc votes else ballots kind doc votes)
       go false d q = refl
       go true true q =
-          let is : vote.doc ≡ doc = same_number vote.doc doc q in
+          let is : vote.doc ≡ doc = eqb-true vote.doc doc q in
           ap (λ o. scored doc o (ballots kind doc votes))
           (ap (λ n. found doc (with_vote_counted n vote.value scores)) is ∙ found_same doc vote.value scores)
       go true false q =
-          ap (λ o. scored doc o (ballots kind doc votes)) (found_other doc vote.doc vote.value scores (flipped doc vote.doc ∙ q))
+          ap (λ o. scored doc o (ballots kind doc votes)) (found_other doc vote.doc vote.value scores (nat_flip doc vote.doc ∙ q))
 
 -- in one step
 
@@ -176,5 +171,5 @@ in_found (other ∷ scores) score apart (inl e) = ap (λ b. if b then Some other
 in_found (other ∷ scores) score apart (inr i) = go (score.doc.0 == other.doc.0) refl (in_found scores score apart.1 i) where
   go : (b : Bool) → (score.doc.0 == other.doc.0) ≡ b → found score.doc.0 scores ≡ Some score
       → (if b then Some other else found score.doc.0 scores) ≡ Some score
-  go true e rest = absurd (apart.0 score i (same_number score.doc.0 other.doc.0 e))
+  go true e rest = absurd (apart.0 score i (eqb-true score.doc.0 other.doc.0 e))
   go false e rest = rest

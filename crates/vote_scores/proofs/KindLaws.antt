@@ -1,5 +1,5 @@
 -- The counted scores of a kind are those of its documents.
-use Rattle.std.proofs.Common.{◌≡◌, ◌∙◌, refl, sym, ap, subst, arith, ℕ, suc, ◌+◌, ◌<◌, ◌≤◌, Bool, true, false, ℤ, pos, List, [], ◌∷◌}
+use Rattle.std.proofs.Common.{◌≡◌, ◌∙◌, refl, sym, ap, arith, ℕ, suc, ◌+◌, ◌<◌, ◌≤◌, Bool, true, false, ℤ, pos, List, [], ◌∷◌}
 use Rattle.std.proofs.Common.{length, filter, Option, Some, None, inl, inr, if◌then◌else◌}
 use Rattle.std.specs.Prelude.{◌⊎◌, ◌&&◌, ◌==◌}
 use Rattle.std.specs.List.{cons_option, filter_map}
@@ -10,20 +10,16 @@ use Rattle.tap_rows.specs.declared.rows.Doc.{Doc}
 use Rattle.tap_rows.specs.declared.rows.Note.{Note}
 use Rattle.tap_rows.specs.declared.tables.Tables.{Tables}
 use Rattle.tap_rows.specs.Arrivals.{Arrived}
-use Rattle.tap_rows.specs.Kept.{Each, In}
+use Rattle.tap_rows.specs.Kept.{In}
 use Rattle.tap_rows.specs.declared.score.Score.{Score}
 use Rattle.tap_rows.specs.Votes.{is_vote, last_notes, votes_on, score_by, score_of, scores_in_order, scores_of, AreNumbered}
+use Rattle.tap_rows.proofs.LaterLaws.{each-in}
 use Rattle.vote_scores.specs.Tally.{tally}
 use Rattle.vote_scores.specs.Counts.{counted_from, ScoresAreApart}
 use Rattle.vote_scores.proofs.ScoreOrder.{same_order}
 use Rattle.vote_scores.proofs.FoundLaws.{found_is, counted_from_apart, found_in, in_found}
 
 -- lists
-
-each_in : {A : Type 0} (P : A → Type 0) (xs : List A) (x : A) → Each P xs → In x xs → P x
-each_in P [] x each i = absurd i
-each_in P (y ∷ ys) x each (inl e) = subst P (sym e) each.0
-each_in P (y ∷ ys) x each (inr i) = each_in P ys x each.1 i
 
 module _ (f : Doc → Option Score) where
   in_map : (docs : List Doc) (score : Score) → In score (filter_map f docs) → (doc : Doc) × In doc docs × (f doc ≡ Some score)
@@ -134,7 +130,7 @@ module _ (kind : List ℕ) (tables : Tables) (sound : AreNumbered tables) where
 
     on : (note : Note) × In note tables.notes × (note.doc.0 ≡ score.doc.0) → (doc : Doc) × In doc tables.docs × (doc.num.0 ≡ score.doc.0)
     on q =
-        let within = each_in (λ (note : Note). (1 ≤ note.doc.0) × (note.doc.0 ≤ length tables.docs)) tables.notes q.0 sound.notes q.1 in
+        let within = each-in (λ (note : Note). (1 ≤ note.doc.0) × (note.doc.0 ≤ length tables.docs)) tables.notes q.0 sound.notes q.1 in
         numbered 1 (pos 0) tables.docs score.doc.0 sound.docs (let w = within.0 in let n = q.2 in omega (arith, w, n))
         (let w = within.1 in let n = q.2 in omega (arith, w, n))
 

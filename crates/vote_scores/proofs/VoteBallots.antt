@@ -4,11 +4,12 @@ use Rattle.std.proofs.Common.{if◌then◌else◌}
 use Rattle.std.specs.Prelude.{◌&&◌, ◌||◌, ◌==◌}
 use Rattle.std.specs.List.{list_any}
 use Rattle.std.specs.Str.{bytes_eq}
-use Rattle.std.proofs.lemmas.Bool.{true≢false}
+use Rattle.std.proofs.lemmas.Bool.{and_parts, eqb-true}
 use Rattle.tap_rows.specs.declared.rows.Note.{Note}
 use Rattle.tap_rows.specs.Votes.{is_vote, is_of_author, last_notes, votes_on, sum_of}
+use Rattle.tap_rows.proofs.Tests.{bytes_same, bytes_itself}
 use Rattle.vote_scores.specs.Tally.{Vote, is_by, with_vote, tally}
-use Rattle.vote_scores.proofs.Ballots.{Ballot, put, lasts, has, weigh, bytes_same, bytes_self, all_put, all_count}
+use Rattle.vote_scores.proofs.Ballots.{Ballot, put, lasts, has, weigh, all_put, all_count}
 
 -- is the vote of this kind on this document?
 abbrev pub is_on : List ℕ → ℕ → Vote → Bool
@@ -23,17 +24,6 @@ ballots kind doc (vote ∷ votes) = if is_on kind doc vote then (vote.author, vo
 abbrev ballot : Note → Ballot
 ballot note = (note.author, note.value)
 
-both : (a b : Bool) → (a && b) ≡ true → (a ≡ true) × (b ≡ true)
-both true b e = (refl, e)
-both false b e = absurd (true≢false (sym e))
-
-joined : (a b : Bool) → a ≡ true → b ≡ true → (a && b) ≡ true
-joined true b p q = q
-joined false b p q = absurd (true≢false (sym p))
-
-same_number : (m n : ℕ) → (m == n) ≡ true → m ≡ n
-same_number m n e = grind (arith, e)
-
 own_number : (n : ℕ) → (n == n) ≡ true
 own_number n = grind arith
 
@@ -41,10 +31,10 @@ own_number n = grind arith
 of_note : (kind : List ℕ) (doc : ℕ) (note : Note) (vote : Vote) → is_by note vote ≡ true
     → (is_on kind doc vote ≡ is_vote kind doc note) × (bytes_eq note.author vote.author ≡ true)
 of_note kind doc note vote e =
-    let k = both (bytes_eq note.kind vote.kind) ((note.doc.0 == vote.doc) && bytes_eq note.author vote.author) e in
-    let d = both (note.doc.0 == vote.doc) (bytes_eq note.author vote.author) k.1 in (
+    let k = and_parts (bytes_eq note.kind vote.kind) ((note.doc.0 == vote.doc) && bytes_eq note.author vote.author) e in
+    let d = and_parts (note.doc.0 == vote.doc) (bytes_eq note.author vote.author) k.1 in (
       ap (λ x. bytes_eq x kind && (vote.doc == doc)) (sym (bytes_same note.kind vote.kind k.0))
-          ∙ ap (λ n. bytes_eq note.kind kind && (n == doc)) (sym (same_number note.doc.0 vote.doc d.0)),
+          ∙ ap (λ n. bytes_eq note.kind kind && (n == doc)) (sym (eqb-true note.doc.0 vote.doc d.0)),
       d.1,
     )
 
@@ -52,11 +42,11 @@ of_note kind doc note vote e =
 by_author : (kind : List ℕ) (doc : ℕ) (note : Note) (vote : Vote) → is_vote kind doc note ≡ true → is_on kind doc vote ≡ true
     → is_by note vote ≡ bytes_eq note.author vote.author
 by_author kind doc note vote n v =
-    let p = both (bytes_eq note.kind kind) (note.doc.0 == doc) n in
-    let q = both (bytes_eq vote.kind kind) (vote.doc == doc) v in
+    let p = and_parts (bytes_eq note.kind kind) (note.doc.0 == doc) n in
+    let q = and_parts (bytes_eq vote.kind kind) (vote.doc == doc) v in
     let k : note.kind ≡ vote.kind = bytes_same note.kind kind p.0 ∙ sym (bytes_same vote.kind kind q.0) in
-    let d : note.doc.0 ≡ vote.doc = same_number note.doc.0 doc p.1 ∙ sym (same_number vote.doc doc q.1) in
-    let kinds : bytes_eq note.kind vote.kind ≡ true = ap (λ x. bytes_eq x vote.kind) k ∙ bytes_self vote.kind in
+    let d : note.doc.0 ≡ vote.doc = eqb-true note.doc.0 doc p.1 ∙ sym (eqb-true vote.doc doc q.1) in
+    let kinds : bytes_eq note.kind vote.kind ≡ true = ap (λ x. bytes_eq x vote.kind) k ∙ bytes_itself vote.kind in
     let docs : (note.doc.0 == vote.doc) ≡ true = ap (λ n. n == vote.doc) d ∙ own_number vote.doc in
     ap (λ b. b && ((note.doc.0 == vote.doc) && bytes_eq note.author vote.author)) kinds
     ∙ ap (λ b. b && bytes_eq note.author vote.author) docs

@@ -1,5 +1,5 @@
 -- Least marks of lists of hits.
-use Rattle.std.proofs.Common.{◌≡◌, ℤ, Bool, true, false, List, [], ◌∷◌, Option, Some, None, refl, sym, ap, ◌∙◌, subst, inl, inr, arith}
+use Rattle.std.proofs.Common.{◌≡◌, ℤ, Bool, false, List, [], ◌∷◌, Option, Some, None, refl, sym, ap, ◌∙◌, subst, inl, inr, arith}
 use Rattle.std.specs.Prelude.{◌⊎◌, int_le, ◌≤ℤ◌}
 use Rattle.std.proofs.lemmas.Int.{ints}
 use Rattle.std.proofs.lemmas.Bool.{cases_Bool}
@@ -7,26 +7,21 @@ use Rattle.tap_rows.specs.declared.rows.Doc.{Doc}
 use Rattle.tap_rows.specs.declared.tables.Tables.{Tables}
 use Rattle.tap_rows.specs.declared.results.Hit.{Hit}
 use Rattle.tap_rows.specs.Kept.{In}
+use Rattle.tap_rows.proofs.Tests.{some_same, le_from}
 use Rattle.time_marks.specs.declared.window.Window.{Window}
 use Rattle.time_marks.specs.Probes.{Probe, meaning_without}
 use Rattle.probe_eval.specs.Found.{AreFound}
 use Rattle.probe_eval.proofs.Meant.{least_is, meaning_in, in_meaning, found_least}
 use Rattle.time_marks.specs.NextWake.{lesser, lesser_or, least_mark}
 
-some_same : {A : Type 0} {x y : A} → Some x ≡ Some y → x ≡ y
-some_same e = cc
-
 antisym : (x y : ℤ) → x ≤ℤ y → y ≤ℤ x → x ≡ y
 antisym x y h k = omega (arith, ints)
 
-reflexive : (x y : ℤ) → x ≡ y → x ≤ℤ y
+pub reflexive : (x y : ℤ) → x ≡ y → x ≤ℤ y
 reflexive x y e = omega (arith, ints)
 
-onward : (x y z : ℤ) → x ≤ℤ y → y ≤ℤ z → x ≤ℤ z
+pub onward : (x y z : ℤ) → x ≤ℤ y → y ≤ℤ z → x ≤ℤ z
 onward x y z h k = omega (arith, ints)
-
-le_true : (x y : ℤ) → int_le x y ≡ true → x ≤ℤ y
-le_true x y h = grind (arith, ints)
 
 le_false : (x y : ℤ) → int_le x y ≡ false → y ≤ℤ x
 le_false x y h = grind (arith, ints)
@@ -39,7 +34,7 @@ lesser_left : (a b : ℤ) → lesser a b ≤ℤ a
 lesser_left a b = elim (cases_Bool (int_le a b)) [ inl e ↦ rw e (reflexive a a refl) | inr e ↦ rw e (le_false a b e) ]
 
 lesser_right : (a b : ℤ) → lesser a b ≤ℤ b
-lesser_right a b = elim (cases_Bool (int_le a b)) [ inl e ↦ rw e (le_true a b e) | inr e ↦ rw e (reflexive b b refl) ]
+lesser_right a b = elim (cases_Bool (int_le a b)) [ inl e ↦ rw e (le_from a b e) | inr e ↦ rw e (reflexive b b refl) ]
 
 -- without a least mark there is no hit
 pub no_mark : (hs : List Hit) → least_mark hs ≡ None → hs ≡ []

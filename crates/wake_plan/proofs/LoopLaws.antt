@@ -1,7 +1,7 @@
 -- One turn of the loop over turns.
 use Rattle.std.proofs.Common.{◌≡◌, ℕ, suc, ◌+◌, ◌≤◌, ℤ, pos, true, false, List, [], ◌∷◌, ◌++◌, Option, Some, None, length, refl, sym, ap}
 use Rattle.std.proofs.Common.{◌∙◌, subst, inl, inr, arith, slice_set}
-use Rattle.std.specs.Prelude.{◌≤ℤ◌, ◌<ℤ◌, neg_ℤ, int_le, int_lt, IfSome}
+use Rattle.std.specs.Prelude.{◌≤ℤ◌, neg_ℤ, int_le, int_lt, IfSome}
 use Rattle.jiff_core.specs.Calendar.{IsWithin}
 use Rattle.std.specs.List.{flat_map}
 use Rattle.std.specs.Option.{is_some}
@@ -26,9 +26,6 @@ use Rattle.wake_plan.proofs.TurnLaws.{due_of, due_within, gone_cost, gone_hits, 
 
 lt_after : (b c : ℤ) → b ≤ℤ c → int_lt b (after_mark c) ≡ true
 lt_after b c h = grind (arith, ints)
-
-lt_to : (b c : ℤ) → b <ℤ c → int_lt b c ≡ true
-lt_to b c h = grind (arith, ints)
 
 le_same : (b c d : ℤ) → b ≤ℤ c → c ≡ d → b ≤ℤ d
 le_same b c d h e = omega (arith, ints)

@@ -16,9 +16,6 @@ use Rattle.time_marks.specs.NextWake.{after_mark, greater, least_mark}
 use Rattle.wake_plan.specs.Wakes.{windows_end}
 use Rattle.wake_plan.proofs.LeastMarks.{mark_least, no_mark}
 
-some_same : {A : Type 0} {x y : A} → Some x ≡ Some y → x ≡ y
-some_same e = cc
-
 longer : (b s t : ℤ) → b <ℤ s → s ≤ℤ t → b <ℤ t
 longer b s t h k = omega (arith, ints)
 

@@ -1,6 +1,7 @@
 -- One more turn is that of one more part.
 use Rattle.std.proofs.Common.{◌≡◌, ◌∙◌, ℕ, zero, suc, ◌+◌, ◌≤◌, List, [], ◌∷◌, ◌++◌, drop, length, refl, sym, ap, subst, arith}
 use Rattle.std.specs.List.{flat_map}
+use Rattle.std.proofs.lemmas.Grind.{flat_map-append}
 use Rattle.tap_rows.specs.Kept.{Each}
 use Rattle.probe_eval.specs.Work.{total}
 
@@ -29,10 +30,6 @@ module _ {A : Type 0} where
       go [] h = (p, tt)
       go (y ∷ ys) h = (h.0, go ys h.1)
 
-flat_append : {A B : Type 0} (f : A → List B) (xs ys : List A) → flat_map f (xs ++ ys) ≡ flat_map f xs ++ flat_map f ys
-flat_append f [] ys = refl
-flat_append f (x ∷ xs) ys = ap (λ z. f x ++ z) (flat_append f xs ys) ∙ sym (append_append (f x) (flat_map f xs) (flat_map f ys))
-
 total_append : {A : Type 0} (f : A → ℕ) (xs ys : List A) → total f (xs ++ ys) ≡ total f xs + total f ys
 total_append f [] ys = omega arith
 total_append f (x ∷ xs) ys = let k = total_append f xs ys in omega (arith, k)
@@ -42,7 +39,7 @@ module _ {A B C : Type 0} (f : A → List C) (g : B → List C) where
       → ys ≡ y ∷ left → f x ≡ g y → now ≡ xs ++ x ∷ [] → flat_map f now ++ flat_map g left ≡ all
   pushed_hits xs now x ys left y all h e q n =
       ap (λ z. flat_map f z ++ flat_map g left) n
-      ∙ ap (λ z. z ++ flat_map g left) (flat_append f xs (x ∷ []) ∙ ap (λ z. flat_map f xs ++ z) (append_none (f x) ∙ q))
+      ∙ ap (λ z. z ++ flat_map g left) (flat_map-append f xs (x ∷ []) ∙ ap (λ z. flat_map f xs ++ z) (append_none (f x) ∙ q))
       ∙ append_append (flat_map f xs) (g y) (flat_map g left)
       ∙ ap (λ z. flat_map f xs ++ flat_map g z) (sym e)
       ∙ h

@@ -16,13 +16,13 @@ use Rattle.tql_core.specs.declared.term.Base.TheVariants as B
 use Rattle.tql_core.specs.Row.{Row, OfDoc, OfNote, arrival, date}
 use Rattle.tql_core.specs.declared.atom.Atom.{Atom}
 use Rattle.tql_core.specs.Values.{Env, bind, lookup, on_row, round_up_to_day, day_of, plus_to, base_value, value, true_atom}
+use Rattle.tql_core.proofs.Bound.{bind_same}
 use Rattle.row_index.specs.Orders.{IsRisingBy, in_window, doc_arrival, note_arrival}
 use Rattle.row_index.specs.Dates.{has_date, stored_date, is_earlier, put_dated, in_date_order, dated_in}
 use Rattle.time_marks.specs.declared.window.Window.{Window}
 use Rattle.time_marks.specs.Probes.{Probe}
 use Rattle.time_marks.specs.declared.seek.Seek.{Seek}
 use Rattle.time_marks.specs.Seeks.{seek_from, seek_of, lies_in}
-use Rattle.time_marks.proofs.Envs.{bind_same}
 use Rattle.time_marks.proofs.Lists.{all_in, map_in}
 use Rattle.time_marks.proofs.WindowLaws.{IsDay, round_up_to_day-day}
 use Rattle.probe_eval.specs.Drivers.{seek_var, arrived_rows, dated_rows, stored_rows, driving, walked}
@@ -30,13 +30,9 @@ use Rattle.probe_eval.specs.Literals.{chosen, rows_where}
 use Rattle.probe_eval.specs.Tables.{table_in}
 use Rattle.probe_eval.proofs.Members.{in_filter}
 use Rattle.wake_plan.specs.Turns.{bound_alone, AreRising}
+use Rattle.wake_plan.proofs.LeastMarks.{onward}
 use Rattle.tap_rows.specs.Fields.{fields}
-
-some_same : {A : Type 0} {x y : A} → Some x ≡ Some y → x ≡ y
-some_same e = cc
-
-onward : (x y z : ℤ) → x ≤ℤ y → y ≤ℤ z → x ≤ℤ z
-onward x y z h k = omega (arith, ints)
+use Rattle.tap_rows.proofs.Tests.{some_same}
 
 -- a lesser second has no later start of a day
 day_rises : (x y a b : ℤ) → IsDay x a → IsDay y b → x ≤ℤ y → a ≤ℤ b

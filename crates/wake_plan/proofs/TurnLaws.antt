@@ -11,6 +11,7 @@ use Rattle.tap_rows.specs.declared.tables.Tables.{Tables}
 use Rattle.tap_rows.specs.declared.results.Hit.{Hit}
 use Rattle.tap_rows.specs.declared.results.Entry.{Entry}
 use Rattle.tap_rows.specs.Kept.{In}
+use Rattle.tap_rows.proofs.Tests.{some_same, none_some}
 use Rattle.tql_core.specs.declared.term.Var.{Var}
 use Rattle.tql_core.specs.Row.{Row, OfDoc, OfNote}
 use Rattle.tql_core.specs.Values.{Env, bind, lookup, value}
@@ -33,16 +34,7 @@ use Rattle.wake_plan.specs.Firsts.{IsNoLater}
 use Rattle.wake_plan.specs.Turns.{has_hit, with_mark, due_at, bound_alone, first_due, due_envs, due_mark, left, due_hits, due_cost}
 use Rattle.wake_plan.specs.Turns.{hits_left, cost_left, AreRising, IsAhead, IsTurn, passed}
 use Rattle.time_marks.specs.NextWake.{least_mark}
-use Rattle.wake_plan.proofs.LeastMarks.{no_mark, mark_is, mark_least}
-
-some_same : {A : Type 0} {x y : A} → Some x ≡ Some y → x ≡ y
-some_same e = cc
-
-none_some : {A : Type 0} {x : A} → None ≡ Some x → ⊥
-none_some e = cc
-
-reflexive : (x y : ℤ) → x ≡ y → x ≤ℤ y
-reflexive x y e = omega (arith, ints)
+use Rattle.wake_plan.proofs.LeastMarks.{no_mark, mark_is, mark_least, reflexive}
 
 -- a hit has the mark with which it was looked for
 hit_first : (passed : Bool) (b : ℤ) (o : Option DocNum) (h : Hit) → In h (option_to_list (hit_if passed b o)) → h.first ≡ b

@@ -2,7 +2,8 @@ use Rattle.std.proofs.Common.{rules, ◌≡◌, Some, None, w64, to_z, of_z}
 use Rattle.std.specs.Option.{option_or}
 use Rattle.tap_base.specs.Numbers.{moment_of}
 use Rattle.tap_model.specs.Verdicts.{is_back}
-use Rattle.tap_engine.proofs.ReadyLaws.{ready-at, moment-in-range}
+use Rattle.tap_model.proofs.HeldLaws.{moment-in-range}
+use Rattle.tap_engine.proofs.ReadyLaws.{ready-at}
 use Rattle.tap_engine.proofs.engine.Engine.at.Goals as goal
 
 pub returns-clause-ok : goal.returns-clause-ok

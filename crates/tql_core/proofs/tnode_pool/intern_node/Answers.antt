@@ -1,5 +1,5 @@
 use Rattle.tql_core.proofs.Growth.{keeps_trees, node_added}
-use Rattle.monotone_rewrite.proofs.shared.shared.Goals as goal
+use Rattle.tql_core.proofs.tnode_pool.intern_node.Goals as goal
 
 pub returns-clause-kept : goal.returns-clause-kept
 returns-clause-kept c = keeps_trees c.args.pool.now c.intern.new.self c.len.ensures.is_pool c.in_ok-id.ensures.extends
