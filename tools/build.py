@@ -94,7 +94,9 @@ class Prover:
         is_well, ready = True, self.find_ready()
         while self.running or self.left and is_well:
             if is_well:
-                for name, jobs in plan.share(ready, self.running, self.work, self.chain, self.needs, self.room(), LANES, self.most):
+                left = sum(self.work[it] for it in self.left)
+                planned = plan.share(ready, self.running, self.work, self.chain, left, self.needs, self.room(), LANES, self.most)
+                for name, jobs in planned:
                     self.begin(name, jobs)
             try:
                 # Another process may end what is waited for.

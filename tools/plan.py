@@ -4,9 +4,10 @@ from typing import Dict, Iterable, List, Mapping, Sequence, Tuple
 
 Uses = Mapping[str, Sequence[str]]
 
-# The processors that a crate with so many jobs keeps busy: measured for one, two and four. A part of each proof is serial.
-BUSY = (0, 1.0, 1.9, 2.4, 2.75)
-MOST_JOBS = len(BUSY) - 1
+# How much faster a crate is with so many jobs. Measured: 1.5, 1.75 and 1.9 times for a small one, 1.9 for a large one with two. A
+# further job costs more than it brings.
+FASTER = (0, 1.0, 1.6, 2.0, 2.2)
+MOST_JOBS = len(FASTER) - 1
 
 
 def read_uses(text: str) -> Dict[str, List[str]]:
@@ -49,11 +50,17 @@ def fitting(need: float, jobs: int, room: float) -> int:
     return max((it for it in range(1, jobs + 1) if memory_of(need, it) <= room), default=0)
 
 
+def jobs_in_time(chain: float, rest: float) -> int:
+    """Returns the fewest jobs with which a chain of crates takes no longer than the rest; the most if none are enough."""
+    return min((it for it in range(1, MOST_JOBS + 1) if chain / FASTER[it] <= rest), default=MOST_JOBS)
+
+
 def share(
     ready: Sequence[str],
     running: Mapping[str, int],
     work: Mapping[str, float],
     chain: Mapping[str, float],
+    left: float,
     needs: Mapping[str, float],
     room: float,
     processors: int,
@@ -61,26 +68,22 @@ def share(
 ) -> List[Tuple[str, int]]:
     """Returns the crates to begin now, the longest chain first, and the jobs of each.
 
-    `ready` wait for no other crate, `running` has the jobs of those at work. The crate with the longest chain of all has as many
-    jobs as there are processors. Another begins only if half a processor is free, and has two jobs at least if its chain on one
-    processor would outlast the longest on all. At most as many crates run as there are processors, each within the memory `room`;
-    if nothing runs, the first begins in any case.
+    `ready` wait for no other crate, `running` has the jobs of those at work, `left` is the work of all that isn't proved. At most
+    as many crates run as there are processors, with one job each. The crate with the longest chain has as many jobs as let it end
+    no later than all that is left, shared out among the processors; and what is idle goes to those that begin. All keep within the
+    memory `room`; if nothing runs, the first begins in any case.
     """
     running, begun = dict(running), []
     # Of a crate that is at work only what stands above it counts: it may be almost done.
     longest = max([chain[it] for it in ready] + [chain[it] - work[it] for it in running], default=0)
     order = sorted(ready, key=lambda it: (-chain[it], it))
     for at, name in enumerate(order):
-        others, is_head = len(order) - at - 1, chain[name] >= longest
-        free = processors - sum(BUSY[min(it, MOST_JOBS)] for it in running.values())
-        if len(running) >= processors or not is_head and free < 0.5:
+        if len(running) >= processors:
             break
-        if is_head:
-            jobs = processors
-        else:
-            is_late = chain[name] * BUSY[min(processors, MOST_JOBS)] > longest
-            jobs = max(1 + is_late, int((free + 0.5) // (others + 1)))
-        jobs = fitting(needs[name], min(jobs, processors, most, MOST_JOBS), room)
+        is_head = chain[name] >= longest
+        idle = processors - sum(running.values()) - (len(order) - at - 1)
+        wanted = max(idle, jobs_in_time(chain[name], left / processors) if is_head else 1)
+        jobs = fitting(needs[name], min(wanted, processors, most, MOST_JOBS), room)
         if not jobs and running:
             if is_head:
                 # Smaller ones would take its memory again and again.

@@ -20,19 +20,23 @@ import plan
 
 TOP = os.path.dirname(os.path.dirname(os.path.abspath(__file__)))
 
-# Processor seconds of a proof from nothing on processors of 2.5 GHz: of the longest chain in a first `./run`, ..
+# Processor seconds of a proof from nothing with one job, beside three others on four processors of 2.5 GHz: of the longest chain ..
 CHAIN = {
-    **{"tap_base": 300, "tap_rows": 107, "tql_core": 87, "time_marks": 62, "access_plan": 127, "probe_eval": 425},
-    **{"query_eval": 257, "tap_kept": 376, "tap_engine": 695, "tap_top": 462, "tapestry": 520},
+    **{"tap_base": 258, "tap_rows": 109, "tql_core": 133, "time_marks": 117, "access_plan": 187, "probe_eval": 469},
+    **{"query_eval": 260, "tap_kept": 389, "tap_engine": 462, "tap_top": 330, "tapestry": 330},
 }
-# .. and of the others by the gate's table in docs/KIT.md, which is lower by a fifth; those that it leaves out count as 30.
+# .. and of the others; those that are left out count as 30.
 OTHERS = {
-    **{"keeper_sql": 310, "keeper_file": 266, "file_session": 252, "tql_parse": 194, "wake_plan": 122, "row_index": 137},
-    **{"tql_types": 137, "mail_fields": 108, "command_words": 108, "script_lang": 115, "restart_core": 115, "appraiser": 115},
-    **{"sample_gen": 58, "tql_tree": 72, "keeper_core": 79, "incremental_rewrite": 79, "monotone_rewrite": 65, "tql_lex": 50},
-    **{"mail_lines": 43, "vote_scores": 43, "tap_edges": 36},
+    **{"keeper_sql": 450, "keeper_file": 386, "row_index": 298, "script_lang": 248, "tql_parse": 247, "tql_types": 225},
+    **{"incremental_rewrite": 209, "mail_fields": 185, "file_session": 158, "query_form": 155, "wake_plan": 152},
+    **{"restart_core": 126, "command_words": 116, "sample_gen": 110, "monotone_rewrite": 109, "keeper_core": 94},
+    **{"filter_rules": 90, "tql_tree": 87, "digest_mail": 86, "vote_scores": 78, "mail_lines": 64, "tql_lex": 64},
+    **{"appraiser": 58, "tap_edges": 50, "snapshot_meaning": 43, "node_pool": 43, "little_box": 36},
 }
 SECONDS = {**OTHERS, **CHAIN}
+# A crate with so many jobs is so much faster, and keeps so many processors busy. Measured for tap_rows with one to four jobs and
+# nothing beside it: 110, 75, 63 and 58 seconds, and 115, 139, 152 and 150 of a processor.
+FASTER, BUSY = (0, 1.0, 1.47, 1.75, 1.9), (0, 1.0, 1.85, 2.4, 2.6)
 GB = 1e9
 
 
@@ -64,11 +68,12 @@ class Simulation:
         while left:
             ready = [it for it in left if it not in running and not any(x in left for x in self.uses[it])]
             room = self.memory - self.planned(running)
-            running.update(plan.share(ready, running, self.work, self.chain, self.needs, room, self.processors))
+            rest = sum(self.work[it] for it in left)
+            running.update(plan.share(ready, running, self.work, self.chain, rest, self.needs, room, self.processors))
             self.jobs.update(running)
             self.most_memory = max(self.most_memory, self.planned(running))
-            wanted = sum(plan.BUSY[it] for it in running.values())
-            speed = {it: plan.BUSY[jobs] * min(1, self.processors / wanted) for it, jobs in running.items()}
+            wanted = sum(BUSY[it] for it in running.values())
+            speed = {it: FASTER[jobs] * min(1, self.processors / wanted) for it, jobs in running.items()}
             step = min(left[it] / speed[it] for it in running)
             self.clock += step
             for it in list(running):
@@ -79,7 +84,7 @@ class Simulation:
     def least(self) -> float:
         """Returns the seconds below which no order comes, with what jobs bring in one crate."""
         chain = max(plan.chains(self.uses, self.seconds).values())
-        return max(sum(self.seconds.values()) / self.processors, chain / plan.BUSY[min(4, self.processors)])
+        return max(sum(self.seconds.values()) / self.processors, chain / FASTER[min(4, self.processors)])
 
 
 class PlanTest(unittest.TestCase):
@@ -97,31 +102,31 @@ class PlanTest(unittest.TestCase):
         work = {"low": 1, "short": 2, "long": 5, "app": 10}
         self.assertEqual(plan.chains(uses, work), {"low": 16, "short": 12, "long": 15, "app": 10})
 
-    def share(self, ready: List[str], running: Mapping[str, int], processors: int, room: float = 100) -> List[Tuple[str, int]]:
+    def share(
+        self, ready: List[str], running: Mapping[str, int], processors: int, room: float = 100, left: float = 400
+    ) -> List[Tuple[str, int]]:
         chain = {"head": 100, "a": 9, "b": 8, "c": 7}
         work = dict.fromkeys(chain, 5.0)
-        return plan.share(ready, running, work, chain, dict.fromkeys(chain, 2.0), room, processors)
+        return plan.share(ready, running, work, chain, left, dict.fromkeys(chain, 2.0), room, processors)
 
-    def test_the_longest_chain_has_all_processors_and_goes_first(self) -> None:
-        self.assertEqual(self.share(["a", "b", "c", "head"], {}, 4), [("head", 4), ("a", 1)])
-        self.assertEqual(self.share(["a", "b", "c", "head"], {}, 3), [("head", 3), ("a", 1)])
-        self.assertEqual(self.share(["a", "head"], {}, 2), [("head", 2)])
+    def test_the_longest_chain_goes_first_and_the_others_have_one_job(self) -> None:
+        self.assertEqual(self.share(["a", "b", "c", "head"], {}, 4), [("head", 1), ("a", 1), ("b", 1), ("c", 1)])
+        self.assertEqual(self.share(["a", "b", "c", "head"], {}, 3), [("head", 1), ("a", 1), ("b", 1)])
         self.assertEqual(self.share(["a", "head"], {}, 1), [("head", 1)])
 
-    def test_it_has_them_also_beside_others(self) -> None:
+    def test_a_chain_that_would_be_late_has_more_jobs(self) -> None:
+        for left, jobs in ((400, 1), (399, 2), (250, 2), (200, 3), (182, 4), (10, 4)):
+            self.assertEqual(self.share(["head"], {"a": 1, "b": 2}, 4, left=left), [("head", jobs)], left)
+        self.assertEqual(self.share(["head"], {"a": 1}, 2, left=10), [("head", 2)])
+        self.assertEqual(self.share(["head"], {"a": 1, "b": 1}, 2, left=10), [])
+
+    def test_idle_processors_go_to_those_that_begin(self) -> None:
         self.assertEqual(self.share(["head"], {}, 4), [("head", 4)])
         self.assertEqual(self.share(["head"], {}, 16), [("head", 4)])
-        self.assertEqual(self.share(["head"], {"a": 3}, 4), [("head", 4)])
-
-    def test_idle_processors_go_to_whom_nothing_waits_for(self) -> None:
+        self.assertEqual(self.share(["a", "head"], {}, 4), [("head", 3), ("a", 1)])
         self.assertEqual(self.share(["a"], {"head": 2}, 4), [("a", 2)])
         self.assertEqual(self.share(["a", "b"], {"head": 2}, 4), [("a", 1), ("b", 1)])
-        self.assertEqual(self.share(["a"], {"head": 2}, 2), [])
-
-    def test_one_that_would_be_late_on_one_processor_has_two_jobs(self) -> None:
-        chain, work = {"head": 100, "keepers": 40, "a": 30}, {"head": 5, "keepers": 5, "a": 5}
-        for name, jobs in (("keepers", 2), ("a", 1)):
-            self.assertEqual(plan.share([name], {"head": 4}, work, chain, dict.fromkeys(chain, 2.0), 100, 4), [(name, jobs)])
+        self.assertEqual(self.share(["a"], {"head": 2}, 2), [("a", 1)])
 
     def test_memory_bounds_jobs_and_crates(self) -> None:
         self.assertEqual(self.share(["head"], {}, 4, room=3.3), [("head", 2)])
@@ -130,15 +135,14 @@ class PlanTest(unittest.TestCase):
         self.assertEqual(self.share(["a"], {"head": 2}, 4, room=1), [])
 
     def test_the_first_reply_is_near_what_no_order_beats(self) -> None:
-        for processors, much in ((1, 1.01), (2, 1.06), (4, 1.12), (8, 1.2)):
+        for processors, much in ((1, 1.01), (2, 1.08), (4, 1.31), (8, 1.1)):
             for by_size in (False, True):
                 it = Simulation(processors, by_size=by_size)
                 self.assertLess(it.clock, much * it.least(), f"{processors} processors: {it.clock / 60:.1f} minutes")
 
-    def test_the_chain_is_never_on_one_processor_alone(self) -> None:
-        for processors in (2, 4):
-            it = Simulation(processors)
-            self.assertEqual([it.jobs[name] for name in CHAIN], [processors] * len(CHAIN))
+    def test_the_last_crate_has_all_processors(self) -> None:
+        for processors in (1, 2, 4):
+            self.assertEqual(Simulation(processors).jobs["tapestry"], processors)
 
     def test_a_plan_keeps_to_memory(self) -> None:
         it = Simulation(4, memory=8 * GB)
