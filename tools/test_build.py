@@ -20,15 +20,16 @@ import plan
 
 TOP = os.path.dirname(os.path.dirname(os.path.abspath(__file__)))
 
-# Processor seconds of a proof from nothing with one job, beside three others on four processors of 2.5 GHz: of the longest chain ..
+# Processor seconds of a proof from nothing with one job, beside three others on four processors of 2.5 GHz, without clang: of the
+# longest chain ..
 CHAIN = {
     **{"tap_base": 258, "tap_rows": 109, "tql_core": 133, "time_marks": 117, "access_plan": 187, "probe_eval": 469},
-    **{"query_eval": 260, "tap_kept": 389, "tap_engine": 462, "tap_top": 330, "tapestry": 330},
+    **{"query_eval": 260, "tap_kept": 389, "tap_engine": 741, "tap_top": 482, "tapestry": 72},
 }
 # .. and of the others; those that are left out count as 30.
 OTHERS = {
     **{"keeper_sql": 450, "keeper_file": 386, "row_index": 298, "script_lang": 248, "tql_parse": 247, "tql_types": 225},
-    **{"incremental_rewrite": 209, "mail_fields": 185, "file_session": 158, "query_form": 155, "wake_plan": 152},
+    **{"incremental_rewrite": 209, "mail_fields": 185, "file_session": 267, "query_form": 155, "wake_plan": 152},
     **{"restart_core": 126, "command_words": 116, "sample_gen": 110, "monotone_rewrite": 109, "keeper_core": 94},
     **{"filter_rules": 90, "tql_tree": 87, "digest_mail": 86, "vote_scores": 78, "mail_lines": 64, "tql_lex": 64},
     **{"appraiser": 58, "tap_edges": 50, "snapshot_meaning": 43, "node_pool": 43, "little_box": 36},
