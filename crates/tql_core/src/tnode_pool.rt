@@ -1,5 +1,5 @@
 //! Nodes in a pool.
-ghost use Rattle.std.specs.Prelude.{◌≡◌, length, true, Some, IfOk, OnOk};
+ghost use Rattle.std.specs.Prelude.{◌≡◌, length, true, Some, IfOk, OnOk, OnErr};
 ghost use Rattle.tap_base.specs.Bytes.{IsPlaceOf};
 ghost use Rattle.node_pool.specs.Pools.{are_below};
 ghost use Rattle.tql_core.specs.Trees.{kids_of, node_tree, tree_at, IsTreeAt, KeepsTrees};
@@ -37,12 +37,13 @@ pub fn node_at(pool: &Pool<TNode>, id: NodeId) -> &TNode
 
 /// Returns the number of the equal node if the pool has one; else appends the node and returns its
 /// new number. Its parts are nodes of the pool. Each number keeps its condition. `Memory` comes if
-/// memory runs out or the pool has no further number.
+/// memory runs out or the pool has no further number, and the pool is unchanged then.
 pub fn intern_node(pool: &mut Pool<TNode>, node: TNode) -> Result<NodeId, Memory>
     requires { are_below (length pool.old) (kids_of node) ≡ true }
     ensures kept { OnOk result (KeepsTrees pool.old pool.new) }
     ensures tree { IfOk result (λ id.
         IsTreeAt pool.new id.0 (node_tree (Some node) (tree_at pool.old))) }
+    ensures err { OnErr result (pool.new ≡ pool.old) }
 {
     if pool.len() == u32::MAX {
         return Err(Memory);
