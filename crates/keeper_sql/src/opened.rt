@@ -98,7 +98,10 @@ pub fn open_store<S: Alter>(alloc: Global, conn: &mut Connection<S>) -> Result<O
         Ok(Opened::Alien(version)) => Ok(Opened::Alien(version)),
         Ok(Opened::Held(tables)) => match tx.commit() {
             Ok(()) => Ok(Opened::Held(tables)),
-            Err(error) => Err(error),
+            Err(error) => {
+                drop(tables);
+                Err(error)
+            }
         },
     }
 }

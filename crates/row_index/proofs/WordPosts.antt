@@ -180,6 +180,8 @@ adding_next words left left' before noted noted' word place es fs gs is next kep
       | inr b ↦ adding_new words left left' before noted noted' word place es fs gs is next (rw b at kept) a
     ]
 
+-- what is noted, by what the look-up of a word returned
+
 pub noted_new : (place : ℕ) (word key : List ℕ) (es : List (List ℕ × List ℕ)) (noted noted' : List (List ℕ)) (new : Bool) → key ≡ word
     → new ≡ not (ends_with place (under bytes_eq key es)) → new ≡ true → noted' ≡ noted ++ word ∷ []
     → noted' ≡ noted_then place word es noted

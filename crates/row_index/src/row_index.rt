@@ -62,12 +62,16 @@ impl Drop for RowIndex {
     // indexes.
     fn drop(self) {
         let RowIndex {
-            docs: _,
-            places: _,
-            notes: _,
-            note_places: _,
+            docs,
+            places,
+            notes,
+            note_places,
             key: _,
         } = self;
+        drop(docs);
+        drop(places);
+        drop(notes);
+        drop(note_places);
     }
 }
 
@@ -282,12 +286,22 @@ impl RowIndex {
         // Brings into scope that the size has 32 bits.
         let _size = doc_size(&doc);
         // Memory first, so that the push after the indexes can't fail.
-        self.docs.reserve(1)?;
-        let words = self.places.add(&doc, place)?;
-        let mut doc = doc;
-        doc.set_words(words);
-        self.docs.push(doc)?;
-        Ok(())
+        if self.docs.reserve(1).is_err() {
+            drop(doc);
+            return Err(Memory);
+        }
+        match self.places.add(&doc, place) {
+            Err(Memory) => {
+                drop(doc);
+                Err(Memory)
+            }
+            Ok(words) => {
+                let mut doc = doc;
+                doc.set_words(words);
+                self.docs.push(doc)?;
+                Ok(())
+            }
+        }
     }
 
     /// Appends a note. `Memory` comes if memory runs out, and then nothing has changed.

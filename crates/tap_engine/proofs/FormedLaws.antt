@@ -49,6 +49,7 @@ notes-standing docs place low (note ∷ notes) from e =
       (within (one-of (λ doc. int_le doc.arrival note.arrival) note.doc.0 docs this.1), rest.1),
     )
 
+-- no query picks a document twice
 picks-once : (runs : List RunRow) (docs : List Doc) (earlier : List Pick) (place : ℕ) (before : Option Pick) (picks : List Pick)
     → picks_stand runs docs earlier place before picks ≡ true → PicksAreDistinct earlier picks
 picks-once runs docs earlier place before [] e = tt

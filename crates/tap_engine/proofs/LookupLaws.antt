@@ -16,7 +16,6 @@ use Rattle.row_index.specs.Held.{indexed_notes}
 use Rattle.row_index.specs.Orders.{Numbered, doc_number}
 use Rattle.appraiser.proofs.DocPlaces.{doc-placed}
 use Rattle.restart_core.specs.Starts.{condition_text}
-use Rattle.script_lang.specs.declared.command.Command.{Command}
 use Rattle.script_lang.specs.declared.command.Command.TheVariants.{Find}
 use Rattle.script_lang.specs.declared.lookup.Lookup.{Lookup}
 use Rattle.script_lang.specs.declared.lookup.Lookup.TheVariants.{ShowDoc, ListNotes, ListQueries, Count}
@@ -35,10 +34,8 @@ use Rattle.tap_model.specs.Stories.{Refuses}
 use Rattle.tap_kept.specs.Keeping.{cached_query}
 use Rattle.tap_kept.specs.Lines.{last_run, cached_line, owned_lines}
 use Rattle.tap_engine.specs.declared.engine.Engine.{Engine}
-use Rattle.tap_engine.specs.declared.prepared.Prepared.{Prepared}
-use Rattle.tap_engine.specs.declared.undo.Undo.TheVariants.{Nothing}
 use Rattle.tap_engine.specs.Standing.{Represents, RefusedBy}
-use Rattle.tap_engine.specs.Answering.{Answers, ReadsAsModel, IsReplyTo, RefusesAsModel}
+use Rattle.tap_engine.specs.Answering.{Answers, IsReplyTo, RefusesAsModel}
 use Rattle.tap_engine.specs.Costs.{most_steps, lookup_work}
 use Rattle.tap_engine.specs.Lookups.{lookup_refusal, cached_found, IsFoundFor, LookupRefuses, cached_lookup_work}
 use Rattle.tap_engine.proofs.AddedRows.{docs-are, notes-are}
@@ -183,15 +180,6 @@ pub each-refusal : (lookup : Lookup) (e : Engine) (r : Result Reply Refusal) →
     → IfErr r (LookupRefuses lookup e) → IfErr r (RefusesAsModel e (Find lookup))
 each-refusal lookup e (Ok reply) numbered by = tt
 each-refusal lookup e (Err refusal) numbered by = λ t represents. lookup-refuses lookup e refusal numbered by t represents
-
--- the reply to a look-up is prepared as it is
-pub prepared-as : (lookup : Lookup) (e : Engine) (c : Command) (reply : Reply) (made : Prepared) → c ≡ Find lookup
-    → made ≡ record { reply = reply; change = None; undo = Nothing } → ReadsAsModel e (Find lookup) reply
-    → (t : Tables) → Represents e t → IsSoundFor c t e.session → Answers t e.session c made.reply made.change e.session
-prepared-as lookup e c reply made is made-is reads t represents =
-    subst (λ k. IsSoundFor k t e.session → Answers t e.session k made.reply made.change e.session) (sym is)
-    (subst (λ m. IsSoundFor (Find lookup) t e.session → Answers t e.session (Find lookup) m.reply m.change e.session) (sym made-is)
-    (reads t represents))
 
 -- the steps that a look-up may take
 pub most-lookup : (lookup : Lookup) (e : Engine) (new old : ℕ) → new ≤ old + cached_lookup_work lookup e → (t : Tables) → Represents e t

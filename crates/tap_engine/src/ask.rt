@@ -50,8 +50,13 @@ impl Engine {
             return Err(Refusal::NoMoment);
         };
         let cond = read_text(alloc, source)?;
-        refuse_open(second, now)?;
-        let docs = given_at(alloc, &cond, &self.index, second, steps)?;
+        if let Err(refusal) = refuse_open(second, now) {
+            drop(cond);
+            return Err(refusal);
+        }
+        let given = given_at(alloc, &cond, &self.index, second, steps);
+        drop(cond);
+        let docs = given?;
         Ok(Reply::Asked {
             moment: second,
             docs,

@@ -55,7 +55,10 @@ fn push_query(
     ensures err { OnErr result ((queries.new ≡ queries.old) × (owners.new ≡ owners.old)) }
 {
     let len = owners.len();
-    push_owner(owners, owner)?;
+    if push_owner(owners, owner).is_err() {
+        drop(kept);
+        return Err(Memory);
+    }
     let done = queries.push(kept);
     if done.is_err() {
         owners.cut(len);

@@ -47,21 +47,18 @@ impl Engine {
             } => self.note(doc, kind, value, text),
             Command::Run(name) => self.run(alloc, name.as_slice(), steps),
             Command::Filter(block) => self.filter(alloc, block),
-            Command::BoxOf(name) => Ok(Prepared::plain(self.show_box(alloc, name)?)),
-            Command::ListOf(name) => Ok(Prepared::plain(self.show_list(alloc, name, steps)?)),
-            Command::Explain(name) => Ok(Prepared::plain(self.explain(alloc, name)?)),
-            Command::Ask { moment, source } => Ok(Prepared::plain(self.ask(
-                alloc,
-                moment.as_slice(),
-                source.as_slice(),
-                steps,
-            )?)),
-            Command::Wake(name) => Ok(Prepared::plain(self.show_wake(alloc, name, steps)?)),
-            Command::ScoresOf(kind) => Ok(Prepared::plain(self.show_scores(alloc, kind)?)),
-            Command::DigestOf { name, ordinal } => Ok(Prepared::plain(self.show_digest(
-                alloc, name, ordinal, steps,
-            )?)),
-            Command::Find(lookup) => Ok(Prepared::plain(self.find(alloc, lookup, steps)?)),
+            Command::BoxOf(name) => Prepared::read(self.show_box(alloc, name)),
+            Command::ListOf(name) => Prepared::read(self.show_list(alloc, name, steps)),
+            Command::Explain(name) => Prepared::read(self.explain(alloc, name)),
+            Command::Ask { moment, source } => {
+                Prepared::read(self.ask(alloc, moment.as_slice(), source.as_slice(), steps))
+            }
+            Command::Wake(name) => Prepared::read(self.show_wake(alloc, name, steps)),
+            Command::ScoresOf(kind) => Prepared::read(self.show_scores(alloc, kind)),
+            Command::DigestOf { name, ordinal } => {
+                Prepared::read(self.show_digest(alloc, name, ordinal, steps))
+            }
+            Command::Find(lookup) => Prepared::read(self.find(alloc, lookup, steps)),
             Command::Bad(refusal) => Err(refusal),
         }
     }
@@ -122,11 +119,17 @@ impl Engine {
             Err(refusal) => return Ok(Reply::No(refusal)),
         };
         let Some(change) = change else {
+            drop(undo);
             return Ok(reply);
         };
         match keeper.commit(&change) {
-            Ok(()) => Ok(reply),
+            Ok(()) => {
+                drop(change);
+                drop(undo);
+                Ok(reply)
+            }
             Err(fault) => {
+                drop(change);
                 self.undo_rows(undo);
                 self.not_committed(fault)
             }

@@ -54,6 +54,11 @@ pub fn given_at<L: Ledger>(
         low: second,
         high: second + 1,
     };
-    let hits = run(alloc, &plan, index, &none, window, steps)?;
-    docs_of(alloc, hits.as_slice())
+    let found = run(alloc, &plan, index, &none, window, steps);
+    drop(none);
+    drop(plan);
+    let hits = found?;
+    let docs = docs_of(alloc, hits.as_slice());
+    drop(hits);
+    docs
 }

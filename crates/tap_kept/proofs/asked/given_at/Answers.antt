@@ -19,7 +19,7 @@ returns-in_err-hits-clause-steps g c =
     let plus : to_z w64 (of_z w64 (s +ℤ pos 1)) ≡ s +ℤ pos 1 = search rules in
     let high = ap (λ (z : ℤ). to_z w64 (of_z w64 (z +ℤ pos 1))) low ∙ plus in
     given-steps (condition c.args.cond.now) s c.args.index.now _ _ c.in_ok-plan.plan.query _ _ c.new-none.ensures here (ap₂ at low high)
-    c.run.ensures.steps
+    c.run-found.ensures.steps
 
 pub returns-clause-docs : goal.returns-clause-docs
 returns-clause-docs g c =
@@ -31,10 +31,10 @@ returns-clause-docs g c =
     let plus : to_z w64 (of_z w64 (s +ℤ pos 1)) ≡ s +ℤ pos 1 = search rules in
     let high = ap (λ (z : ℤ). to_z w64 (of_z w64 (z +ℤ pos 1))) low ∙ plus in
     let same : c.as_slice.result.now ≡ c.in_ok-hits.hits = search rules in
-    subst (λ ys. IfOk c.docs_of.result (λ docs. docs ≡ ys))
+    subst (λ ys. IfOk c.docs_of-docs.result (λ docs. docs ≡ ys))
     (given-docs (condition c.args.cond.now) s c.args.index.now _ _ _ c.as_slice.result.now c.requires.scoped c.requires.second.0
     c.docs-docs.ensures.arrived c.new-none.ensures here (ap₂ at low high) (same ∙ c.in_ok-hits.ensures.hits))
-    c.docs_of.ensures
+    c.docs_of-docs.ensures
 
 pub returns-clause-steps : goal.returns-clause-steps
 returns-clause-steps g c =
@@ -46,4 +46,4 @@ returns-clause-steps g c =
     let plus : to_z w64 (of_z w64 (s +ℤ pos 1)) ≡ s +ℤ pos 1 = search rules in
     let high = ap (λ (z : ℤ). to_z w64 (of_z w64 (z +ℤ pos 1))) low ∙ plus in
     given-steps (condition c.args.cond.now) s c.args.index.now _ _ c.in_ok-plan.plan.query _ _ c.new-none.ensures here (ap₂ at low high)
-    c.run.ensures.steps
+    c.run-found.ensures.steps

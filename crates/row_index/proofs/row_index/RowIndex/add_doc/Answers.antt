@@ -17,10 +17,10 @@ add-requires c =
 
 pub set_words-requires : goal.set_words-requires
 unfolding fields
-set_words-requires c = c.in_ok-words.ensures.words
+set_words-requires c = search rules
 
-pub invariant_of-self-2 : goal.invariant_of-self-2
-invariant_of-self-2 c =
+pub invariant_of-self-in-Ok : goal.invariant_of-self-in-Ok
+invariant_of-self-in-Ok c =
     let old = c.self.inside.docs.items in
     let number : c.args.doc.num.0 ≡ length old + 1 = search rules in
     let fits : c.args.doc.num.0 < 2 ^ 32 = search rules in

@@ -21,17 +21,17 @@ returns-in_err-cond-clause-refusal g c =
     λ t. ask-text c.args.self.now.session c.args.moment.now c.args.source.now c.in-Some.second c.in-Some-moment.now is there t
     c.in_err-cond.field-0.0 c.in_err-cond.ensures.refusal in search (rules, by)
 
-pub returns-in_err-refuse_open-clause-refusal : goal.returns-in_err-refuse_open-clause-refusal
-returns-in_err-refuse_open-clause-refusal g c =
+pub returns-in-Err-clause-refusal : goal.returns-in-Err-clause-refusal
+returns-in-Err-clause-refusal g c =
     let is : moment_of c.args.moment.now ≡ Some c.in-Some.second = search rules in
     let there : c.args.self.now.session.moment ≡ Some c.in-Some-moment.now = search rules in
     let ask = Ask c.args.moment.now c.args.source.now in
-    let by : (t : Tables) → Represents c.args.self.now t → Refuses c.in_err-refuse_open.field-0.0 ask c.args.self.now.session t =
+    let by : (t : Tables) → Represents c.args.self.now t → Refuses c.in-Err.refusal ask c.args.self.now.session t =
     λ t represents. ask-open c.args.self.now.session c.args.moment.now c.args.source.now c.in-Some.second c.in-Some-moment.now is there t
-    (condition c.in_ok-cond.cond) c.in_err-refuse_open.field-0.0 c.in_ok-cond.ensures.cond (search rules) in search (rules, by)
+    (condition c.in_ok-cond.cond) c.in-Err.refusal c.in_ok-cond.ensures.cond (search rules) in search (rules, by)
 
-pub given_at-requires-clause-second : goal.given_at-requires-clause-second
-given_at-requires-clause-second g c =
+pub given_at-given-requires-clause-second : goal.given_at-given-requires-clause-second
+given_at-given-requires-clause-second g c =
     let is : moment_of c.args.moment.now ≡ Some c.in-Some.second = search rules in
     let same : to_z w64 (of_z w64 c.in-Some.second) ≡ c.in-Some.second = search rules in
     subst IsMoment (sym same) (subst InRange is (moment-range c.args.moment.now))
@@ -52,7 +52,7 @@ pub returns-in_err-docs-clause-most : goal.returns-in_err-docs-clause-most
 returns-in_err-docs-clause-most g c =
     let is : moment_of c.args.moment.now ≡ Some c.in-Some.second = search rules in
     let same : to_z w64 (of_z w64 c.in-Some.second) ≡ c.in-Some.second = search rules in
-    let steps = at-second c.args.self.now.index (condition c.in_ok-cond.cond) _ c.in-Some.second _ _ same c.given_at.ensures.steps in
+    let steps = at-second c.args.self.now.index (condition c.in_ok-cond.cond) _ c.in-Some.second _ _ same c.given_at-given.ensures.steps in
     most-ask c.args.self.now c.args.moment.now c.args.source.now c.in-Some.second (condition c.in_ok-cond.cond) _ _ is
     c.in_ok-cond.ensures.cond steps
 
@@ -60,7 +60,7 @@ pub returns-clause-most : goal.returns-clause-most
 returns-clause-most g c =
     let is : moment_of c.args.moment.now ≡ Some c.in-Some.second = search rules in
     let same : to_z w64 (of_z w64 c.in-Some.second) ≡ c.in-Some.second = search rules in
-    let steps = at-second c.args.self.now.index (condition c.in_ok-cond.cond) _ c.in-Some.second _ _ same c.given_at.ensures.steps in
+    let steps = at-second c.args.self.now.index (condition c.in_ok-cond.cond) _ c.in-Some.second _ _ same c.given_at-given.ensures.steps in
     most-ask c.args.self.now c.args.moment.now c.args.source.now c.in-Some.second (condition c.in_ok-cond.cond) _ _ is
     c.in_ok-cond.ensures.cond steps
 
