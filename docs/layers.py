@@ -33,7 +33,7 @@ BELOW: List[Layer] = [
     (
         "queries",
         "ink",
-        "filter_rules incremental_rewrite monotone_rewrite time_marks query_form snapshot_meaning"
+        "filter_rules incremental_rewrite delta_rewrite monotone_rewrite time_marks query_form snapshot_meaning"
         " tql_text tql_types tql_core tql_parse tql_lex tql_tree".split(),
     ),
     ("lines and words", "ink", ["mail_fields", "mail_lines", "command_words"]),

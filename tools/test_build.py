@@ -29,7 +29,7 @@ CHAIN = {
 # .. and of the others; those that are left out count as 30.
 OTHERS = {
     **{"keeper_sql": 450, "keeper_file": 386, "row_index": 298, "script_lang": 248, "tql_parse": 247, "tql_types": 225},
-    **{"incremental_rewrite": 209, "mail_fields": 185, "file_session": 267, "query_form": 155, "wake_plan": 152},
+    **{"delta_rewrite": 230, "incremental_rewrite": 110, "mail_fields": 185, "file_session": 267, "query_form": 155, "wake_plan": 152},
     **{"restart_core": 126, "command_words": 116, "sample_gen": 110, "monotone_rewrite": 109, "keeper_core": 94},
     **{"filter_rules": 90, "tql_tree": 87, "digest_mail": 86, "vote_scores": 78, "mail_lines": 64, "tql_lex": 64},
     **{"appraiser": 58, "tap_edges": 50, "snapshot_meaning": 43, "node_pool": 43, "little_box": 36},

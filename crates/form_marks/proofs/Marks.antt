@@ -1,4 +1,4 @@
--- The form of a condition has no mark that the condition hasn't.
+-- The probes by which the form of a condition is evaluated have no mark that the condition hasn't.
 use Rattle.std.proofs.Common.{◌≡◌, ℕ, ℤ, pos, Bool, true, false, List, [], ◌∷◌, ◌++◌, refl, sym, ap, ◌∙◌, subst, inl, inr, map}
 use Rattle.std.specs.Prelude.{◌⊎◌, ◌&&◌, not, nat_le, nat_eq, int_lt, if◌then◌else◌}
 use Rattle.std.specs.List.{list_any}
@@ -29,6 +29,8 @@ use Rattle.time_marks.proofs.Lists.{in_map, map_in}
 use Rattle.time_marks.proofs.Repeats.{distinct_among, probe_is}
 use Rattle.monotone_rewrite.specs.Folding.{known, is_no, fold}
 use Rattle.monotone_rewrite.specs.Query.{can_find, fold_probe, probe_of, unfolded, window}
+use Rattle.delta_rewrite.specs.Delta.{delta_window}
+use Rattle.delta_rewrite.proofs.SameMarks.{no_other_mark}
 use Rattle.probe_eval.proofs.Members.{in_filter, to_filter}
 use Rattle.probe_eval.specs.Runs.{starts, HasNoMark}
 use Rattle.probe_eval.specs.Tables.{table_in}
@@ -37,7 +39,7 @@ use Rattle.query_form.specs.declared.place.Place.TheVariants.{Before, Inside, Af
 use Rattle.query_form.specs.Form.{names, base_names, has_key, may_split, conjoined, place_of, same_place, only_if, conjuncts, beside}
 use Rattle.query_form.specs.Form.{narrowed, cross_right, cross, distributed, exists_each, split, formed, node_count, form_of}
 use Rattle.query_form.proofs.Equivalent.{conjuncts_apart}
-use Rattle.query_form.proofs.Scopes.{conjuncts_in, distributed_in, formed_in}
+use Rattle.query_form.proofs.Scopes.{conjuncts_in, distributed_in, formed_in, forms_are_queries}
 use Rattle.form_marks.specs.Laws.{FormsHaveNoOtherMark}
 use Rattle.form_marks.proofs.Verdicts.{form_known}
 
@@ -365,10 +367,13 @@ no_mark T w p q a b x y e h none env i =
     (none env (subst (λ (z : Term). In env (starts T (record { path = q; at = z; body = y }))) e
     (subst (In env) (starts_same T p q a.base a.plus x y h) i)))
 
-pub forms_have_no_other_mark : FormsHaveNoOtherMark
-forms_have_no_other_mark c start query T w none p i =
+-- the window query of the form has none
+window_has_none : (c : Condition) (start : ℤ) → IsQuery c → (T : Tables) (w : Window)
+    → ((p : Probe) → In p (distinct_probes (window c start)) → HasNoMark T w p)
+    → (p : Probe) → In p (window (form_of c) start) → HasNoMark T w p
+window_has_none c start query T w none p i =
     let c' = form_of c in
-    let f = in_filter can_find (map fold_probe (unfolded c' start)) p (distinct_among (window c' start) p i) in
+    let f = in_filter can_find (map fold_probe (unfolded c' start)) p i in
     let g = map_in fold_probe (unfolded c' start) p f.0 in
     let h = map_in (probe_of c') (rising_from c' start) g.0 g.1 in
     let m = h.0 in
@@ -384,3 +389,10 @@ forms_have_no_other_mark c start query T w none p i =
     (in_map fold_probe (unfolded c start) (probe_of c n) (in_map (probe_of c) (rising_from c start) n a.1)) found) in
     subst (HasNoMark T w) (sym is) (no_mark T w m.path n.path m.at n.at (fold m.at (body c' m.at)) (fold n.at (body c n.at)) a.2.at
     a.2.table (none q here))
+
+pub forms_have_no_other_mark : FormsHaveNoOtherMark
+forms_have_no_other_mark c start query T w none p i =
+    let c' = form_of c in
+    let k = no_other_mark c' start (forms_are_queries c query) p (distinct_among (delta_window c' start) p i) in
+    no_mark T w p.path k.0.path p.at k.0.at p.body k.0.body (sym k.3) (λ n j. ap (λ (path : List Step). table_in path n) (sym k.2))
+    (window_has_none c start query T w none k.0 k.1)

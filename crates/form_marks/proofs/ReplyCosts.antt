@@ -42,9 +42,8 @@ use Rattle.probe_eval.proofs.AccessLists.{no_text}
 use Rattle.probe_eval.proofs.LinearLaws.{probes_by_index_are_linear}
 use Rattle.probe_eval.proofs.Members.{in_filter}
 use Rattle.probe_eval.proofs.ShortestLaws.{filter_less}
-use Rattle.monotone_rewrite.specs.Query.{window}
+use Rattle.delta_rewrite.specs.Delta.{delta_window}
 use Rattle.query_form.specs.Form.{form_of}
-use Rattle.incremental_rewrite.specs.Witness.{bare_probes}
 use Rattle.form_marks.specs.Replies.{reply_var, has_reply, HasDistinctIds, probe_cost, RepliesTakeTwoSteps}
 
 -- the reply of a path
@@ -74,7 +73,7 @@ first_probe = record { path = asked_step ∷ []; at = arrival_term document_var;
 abbrev second_probe : Probe
 second_probe = record { path = asked_step ∷ reply_step ∷ []; at = arrival_term path_var; body = Always }
 
-the_probes : distinct_probes (bare_probes (window (form_of has_reply) (pos 0))) ≡ first_probe ∷ second_probe ∷ []
+the_probes : distinct_probes (delta_window (form_of has_reply) (pos 0)) ≡ first_probe ∷ second_probe ∷ []
 the_probes = refl
 
 first_is_probe : IsProbe first_probe

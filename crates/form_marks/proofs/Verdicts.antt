@@ -8,70 +8,18 @@ use Rattle.tql_core.specs.declared.term.Term.{Term}
 use Rattle.tql_core.specs.declared.atom.Atom.TheVariants.{Times}
 use Rattle.tql_core.specs.Condition.{Condition, Always, Never, Plain, NowAtLeast, NowBefore, All, Either, Not, Exists}
 use Rattle.time_marks.specs.Marks.{arrival_term, body}
-use Rattle.monotone_rewrite.specs.Folding.{KnownTruth, Yes, No, Open, known, fold_atom, fold_all, fold_either, fold_not, fold_exists, fold}
+use Rattle.monotone_rewrite.specs.Folding.{KnownTruth, Yes, No, Open, known, fold}
 use Rattle.query_form.specs.declared.place.Place.{Place}
 use Rattle.query_form.specs.declared.place.Place.TheVariants.{Before, Inside, After}
 use Rattle.query_form.specs.Form.{has_key, may_split, conjoined, place_of, same_place, only_if, conjuncts, beside, narrowed, cross_right}
 use Rattle.query_form.specs.Form.{cross, distributed, exists_each, split, formed, node_count, form_of}
-
--- what is known of both, of either, and of an EXISTS
-abbrev kall : KnownTruth → KnownTruth → KnownTruth
-kall No k = No
-kall Yes k = k
-kall Open No = No
-kall Open Yes = Open
-kall Open Open = Open
-
-abbrev keither : KnownTruth → KnownTruth → KnownTruth
-keither Yes k = Yes
-keither No k = k
-keither Open Yes = Yes
-keither Open No = Open
-keither Open Open = Open
-
-abbrev kexists : KnownTruth → KnownTruth
-kexists No = No
-kexists Yes = Open
-kexists Open = Open
-
-abbrev knot : KnownTruth → KnownTruth
-knot Yes = No
-knot No = Yes
-knot Open = Open
-
-all_known : (k k' : KnownTruth) (l r : Condition) → known l ≡ k → known r ≡ k' → known (fold_all k k' l r) ≡ kall k k'
-all_known No k' l r e f = refl
-all_known Yes k' l r e f = f
-all_known Open No l r e f = refl
-all_known Open Yes l r e f = e
-all_known Open Open l r e f = refl
-
-either_known : (k k' : KnownTruth) (l r : Condition) → known l ≡ k → known r ≡ k' → known (fold_either k k' l r) ≡ keither k k'
-either_known Yes k' l r e f = refl
-either_known No k' l r e f = f
-either_known Open Yes l r e f = refl
-either_known Open No l r e f = e
-either_known Open Open l r e f = refl
-
-not_known : (k : KnownTruth) (x : Condition) → known (fold_not k x) ≡ knot k
-not_known Yes x = refl
-not_known No x = refl
-not_known Open x = refl
-
-exists_known : (k : KnownTruth) (v : Var) (t : Table) (x : Condition) → known (fold_exists k v t x) ≡ kexists k
-exists_known Yes v t x = refl
-exists_known No v t x = refl
-exists_known Open v t x = refl
+use Rattle.delta_rewrite.proofs.KnownBodies as bodies
+use Rattle.delta_rewrite.proofs.KnownBodies.{kall, keither, kexists, knot, all_no}
 
 all_yes : (k : KnownTruth) → kall k Yes ≡ k
 all_yes Yes = refl
 all_yes No = refl
 all_yes Open = refl
-
-all_no : (k : KnownTruth) → kall k No ≡ No
-all_no Yes = refl
-all_no No = refl
-all_no Open = refl
 
 swapped : (a b : KnownTruth) → kall a b ≡ kall b a
 swapped No b = sym (all_no b)
@@ -141,26 +89,25 @@ pulled a b x h =
 module _ (at : Term) where
   -- what is known of a condition's body
   abbrev kn : Condition → KnownTruth
-  kn c = known (fold at (body c at))
+  kn c = bodies.kn at (body c at)
 
   -- what is known of a row's arrival
   abbrev come : Var → KnownTruth
-  come v = known (fold_atom at (Times (arrival_term v) Le at))
+  come v = bodies.kn at (Plain (Times (arrival_term v) Le at))
 
   all_kn : (l r : Condition) → kn (All l r) ≡ kall (kn l) (kn r)
-  all_kn l r = all_known (kn l) (kn r) (fold at (body l at)) (fold at (body r at)) refl refl
+  all_kn l r = bodies.all_kn at (body l at) (body r at)
 
   either_kn : (l r : Condition) → kn (Either l r) ≡ keither (kn l) (kn r)
-  either_kn l r = either_known (kn l) (kn r) (fold at (body l at)) (fold at (body r at)) refl refl
+  either_kn l r = bodies.either_kn at (body l at) (body r at)
 
   not_kn : (x : Condition) → kn (Not x) ≡ knot (kn x)
-  not_kn x = not_known (kn x) (fold at (body x at))
+  not_kn x = bodies.not_kn at (body x at)
 
   exists_kn : (v : Var) (t : Table) (x : Condition) → kn (Exists v t x) ≡ kexists (kall (come v) (kn x))
   exists_kn v t x =
-      exists_known (known (fold at (All (Plain (Times (arrival_term v) Le at)) (body x at)))) v t
-      (fold at (All (Plain (Times (arrival_term v) Le at)) (body x at)))
-      ∙ ap kexists (all_known (come v) (kn x) (fold_atom at (Times (arrival_term v) Le at)) (fold at (body x at)) refl refl)
+      bodies.exists_kn at v t (All (Plain (Times (arrival_term v) Le at)) (body x at))
+      ∙ ap kexists (bodies.all_kn at (Plain (Times (arrival_term v) Le at)) (body x at))
 
   conjoined_kn : (l r : Condition) → kn (conjoined l r) ≡ kall (kn l) (kn r)
   conjoined_kn Always r = refl

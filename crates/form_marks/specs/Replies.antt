@@ -20,9 +20,8 @@ use Rattle.time_marks.specs.Seeks.{seek_of}
 use Rattle.row_index.specs.Orders.{in_window, doc_arrival}
 use Rattle.access_plan.specs.Orders.{order_of}
 use Rattle.probe_eval.specs.Drivers.{seek_var, seek_cost}
-use Rattle.monotone_rewrite.specs.Query.{window}
+use Rattle.delta_rewrite.specs.Delta.{delta_window}
 use Rattle.query_form.specs.Form.{form_of}
-use Rattle.incremental_rewrite.specs.Witness.{bare_probes}
 
 -- the variable of a reply
 abbrev pub reply_var : Var
@@ -49,5 +48,5 @@ probe_cost entries T w p = seek_cost entries T w p (order_of p.path p.at.base) (
 abbrev pub RepliesTakeTwoSteps : Type 0
 RepliesTakeTwoSteps =
     (entries : List Entry) (T : Tables) (w : Window) (p : Probe) → HasDistinctIds T
-    → In p (distinct_probes (bare_probes (window (form_of has_reply) (pos 0))))
+    → In p (distinct_probes (delta_window (form_of has_reply) (pos 0)))
     → probe_cost entries T w p ≤ length (in_window doc_arrival w.low w.high T.docs) * 2

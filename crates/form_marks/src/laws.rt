@@ -2,8 +2,8 @@
 ghost use Rattle.form_marks.specs.Laws.{FormsHaveNoOtherMark};
 ghost use Rattle.form_marks.specs.Replies.{RepliesTakeTwoSteps};
 
-/// States that no probe of the form of a query has a mark in a window in which no probe of the
-/// query as it is written has one.
+/// States that no probe by which the form of a query is evaluated has a mark in a window in which
+/// no probe of the query as it is written has one.
 pub fn forms_have_no_other_mark()
     ensures { FormsHaveNoOtherMark }
 {}

@@ -21,7 +21,7 @@ use Rattle.time_marks.proofs.Depth.{higher_left, higher_right}
 use Rattle.monotone_rewrite.specs.Folding.{KnownTruth, Yes, No, Open, known, constant, same_base, is_there, fold_all, fold_either, fold_not}
 use Rattle.monotone_rewrite.specs.Folding.{fold_exists, fold}
 
-high_least : (a b n : ℕ) → a ≤ n → b ≤ n → higher a b ≤ n
+pub high_least : (a b n : ℕ) → a ≤ n → b ≤ n → higher a b ≤ n
 high_least a b n h k = go (nat_le a b) where
   go : (t : Bool) → (if t then b else a) ≤ n
   go true = k
@@ -171,7 +171,7 @@ exists_nested No v t x = omega arith
 exists_nested Yes v t x = omega arith
 exists_nested Open v t x = omega arith
 
-higher_both : (a b c d : ℕ) → a ≤ c → b ≤ d → higher a b ≤ higher c d
+pub higher_both : (a b c d : ℕ) → a ≤ c → b ≤ d → higher a b ≤ higher c d
 higher_both a b c d h k = high_least a b (higher c d) (omega (arith, h, higher_left c d)) (omega (arith, k, higher_right c d))
 
 pub nested_fold : (at : Term) (x : Condition) → nested (fold at x) ≤ nested x

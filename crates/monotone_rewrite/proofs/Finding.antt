@@ -83,7 +83,7 @@ fine_from c a q mark i =
     ]
 
 module _ (T : Tables) (d : Doc) where
-  choices_other : (step : Step) → (step.var.0 ≡ 0 → ⊥) → choices T d step ≡ rows_of step.table T
+  pub choices_other : (step : Step) → (step.var.0 ≡ 0 → ⊥) → choices T d step ≡ rows_of step.table T
   choices_other step h = rw (ne_eqb step.var.0 0 h)
 
   -- rows along a path that pass the test
@@ -102,16 +102,16 @@ module _ (T : Tables) (d : Doc) where
       let n = some_pass b path (bind step.var k.0 env) test a.1 k.2 in
       (n.0, n.1, n.2 ∙ bind_other 0 step.var k.0 env (λ e. a.0 (sym e)), λ y. (and_parts _ _ (n.3 y)).1)
 
-  along_come : (s : ℤ) (path : List Step) (env final : Env) → Along T s path env final → come_by s env ≡ true → come_by s final ≡ true
+  pub along_come : (s : ℤ) (path : List Step) (env final : Env) → Along T s path env final → come_by s env ≡ true → come_by s final ≡ true
   along_come s [] env final e h = subst (λ x. come_by s x ≡ true) (sym e) h
   along_come s (step ∷ path) env final (r, i, c, along) h = along_come s path (bind step.var r env) final along (and_from _ _ c h)
 
 module _ (c : Condition) (a : ℤ) (q : IsQuery c) (T : Tables) (d : Doc) where
-  only_m : (env : Env) → lookup 0 env ≡ Some (OfDoc d) → Same (0 ∷ []) (asked_of d) env
+  pub only_m : (env : Env) → lookup 0 env ≡ Some (OfDoc d) → Same (0 ∷ []) (asked_of d) env
   only_m env h k (inl e) = subst (λ j. lookup j env ≡ lookup j (asked_of d)) (sym e) h
   only_m env h k (inr i) = absurd i
 
-  keeps_m : Keeps (0 ∷ []) (asked_of d) (asked_of d)
+  pub keeps_m : Keeps (0 ∷ []) (asked_of d) (asked_of d)
   keeps_m k (inl e) = subst (λ j. lookup (copied j) (asked_of d) ≡ lookup j (asked_of d)) (sym e) refl
   keeps_m k (inr i) = absurd i
 

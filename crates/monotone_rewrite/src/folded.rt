@@ -38,8 +38,9 @@ fn is_there(at: &Term, base: Base) -> bool
     }
 }
 
-// Interns an atom. A comparison that is known is True or False.
-fn folded_atom(pool: &mut Pool<TNode>, at: &Term, atom: Atom) -> Result<NodeId, Memory>
+/// Interns an atom, folded at the term: a comparison that is known is True or False. `Memory`
+/// comes if memory runs out or the pool is full.
+pub fn folded_atom(pool: &mut Pool<TNode>, at: &Term, atom: Atom) -> Result<NodeId, Memory>
     ensures kept { OnOk result (KeepsTrees pool.old pool.new) }
     ensures tree { IfOk result (λ id. IsTreeAt pool.new id.0 (fold_atom at.now atom)) }
 {

@@ -6,4 +6,6 @@ pub mod laws;
 mod shared;
 mod window_query;
 
-pub use window_query::{monotone, monotone_from};
+pub use folded::folded_atom;
+pub use shared::{shared_all, shared_either, shared_exists, shared_not};
+pub use window_query::{can_find, monotone, monotone_from};

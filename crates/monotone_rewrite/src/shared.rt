@@ -44,8 +44,9 @@ pub(crate) fn shared_constant(pool: &mut Pool<TNode>, truth: bool) -> Result<Nod
     }
 }
 
-// Interns the conjunction, unless one side is known.
-pub(crate) fn shared_all(pool: &mut Pool<TNode>, l: NodeId, r: NodeId) -> Result<NodeId, Memory>
+/// Interns the conjunction, unless one side is known. `Memory` comes if memory runs
+/// out or the pool is full.
+pub fn shared_all(pool: &mut Pool<TNode>, l: NodeId, r: NodeId) -> Result<NodeId, Memory>
     requires left { IsPlaceOf pool.old l.0 }
     requires right { IsPlaceOf pool.old r.0 }
     ensures kept { OnOk result (KeepsTrees pool.old pool.new) }
@@ -62,8 +63,9 @@ pub(crate) fn shared_all(pool: &mut Pool<TNode>, l: NodeId, r: NodeId) -> Result
     }
 }
 
-// Interns the disjunction, unless one side is known.
-pub(crate) fn shared_either(pool: &mut Pool<TNode>, l: NodeId, r: NodeId) -> Result<NodeId, Memory>
+/// Interns the disjunction, unless one side is known. `Memory` comes if memory runs
+/// out or the pool is full.
+pub fn shared_either(pool: &mut Pool<TNode>, l: NodeId, r: NodeId) -> Result<NodeId, Memory>
     requires left { IsPlaceOf pool.old l.0 }
     requires right { IsPlaceOf pool.old r.0 }
     ensures kept { OnOk result (KeepsTrees pool.old pool.new) }
@@ -80,8 +82,9 @@ pub(crate) fn shared_either(pool: &mut Pool<TNode>, l: NodeId, r: NodeId) -> Res
     }
 }
 
-// Interns the negation. It is known if its operand is.
-pub(crate) fn shared_not(pool: &mut Pool<TNode>, x: NodeId) -> Result<NodeId, Memory>
+/// Interns the negation. It is known if its operand is. `Memory` comes if memory runs out or the
+/// pool is full.
+pub fn shared_not(pool: &mut Pool<TNode>, x: NodeId) -> Result<NodeId, Memory>
     requires { IsPlaceOf pool.old x.0 }
     ensures kept { OnOk result (KeepsTrees pool.old pool.new) }
     ensures tree { IfOk result (λ id.
@@ -94,8 +97,9 @@ pub(crate) fn shared_not(pool: &mut Pool<TNode>, x: NodeId) -> Result<NodeId, Me
     }
 }
 
-// Interns an EXISTS. It is False if its inner condition is.
-pub(crate) fn shared_exists(
+/// Interns an EXISTS. It is False if its inner condition is. `Memory` comes if memory runs out or
+/// the pool is full.
+pub fn shared_exists(
     pool: &mut Pool<TNode>,
     var: Var,
     table: Table,

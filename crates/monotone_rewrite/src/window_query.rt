@@ -21,8 +21,8 @@ use tap_base::{Memory, Rows};
 use time_marks::{Mark, Probe, WindowQuery, rising_from};
 use tql_core::{Cond, TNode};
 
-// Returns whether the body is anything but False.
-fn can_find(pool: &Pool<TNode>, body: NodeId) -> bool
+/// Returns whether the body is anything but False.
+pub fn can_find(pool: &Pool<TNode>, body: NodeId) -> bool
     requires { IsPlaceOf pool.now body.0 }
     ensures { result ≡ not (is_no (known (tree_at pool.now body.0))) }
 {

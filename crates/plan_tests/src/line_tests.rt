@@ -13,8 +13,9 @@ ghost use Rattle.tql_core.specs.Condition.{condition, Plain, All, Not, Exists, N
 ghost use Rattle.tql_core.specs.Condition.{NowBefore};
 ghost use Rattle.monotone_rewrite.specs.Query.{CanRewriteFrom};
 
-use crate::conditions::{arrival, both, for_no_note};
-use incremental_rewrite::{bare, incremental, render};
+use crate::conditions::{arrival, both, for_no_note, not};
+use delta_rewrite::delta_from;
+use incremental_rewrite::{incremental, render};
 use monotone_rewrite::monotone_from;
 use std::alloc::Global;
 use tap_base::{Memory, Op, Text, Texts};
@@ -41,13 +42,13 @@ fn explained(alloc: Global, cond: Cond, start: i64) -> Result<Texts, Memory>
     lines
 }
 
-// Returns the lines of a condition without the bodies that the rows of their paths make true.
-fn bare_lines(alloc: Global, cond: Cond) -> Result<Texts, Memory>
+// Returns the lines of the delta window of a condition.
+fn delta_lines(alloc: Global, cond: Cond) -> Result<Texts, Memory>
     requires { CanRewriteFrom (condition cond) (pos 0) }
 {
-    let query = monotone_from(alloc, &cond, 0);
+    let query = delta_from(alloc, &cond, 0);
     drop(cond);
-    let ranged = incremental(alloc, bare(alloc, query?)?)?;
+    let ranged = incremental(alloc, query?)?;
     let lines = render(alloc, &ranged);
     drop(ranged);
     lines
@@ -92,6 +93,20 @@ fn noted(alloc: Global) -> Result<Cond, Memory>
         NumExpr::Field(Var(0), NumField::Id),
     ));
     Ok(Cond::Exists(Var(1), Table::Notes, Box::new(alloc, on)?))
+}
+
+// Returns the condition that there is a note on the message that hasn't the message's number.
+fn noted_apart(alloc: Global) -> Result<Cond, Memory>
+    ensures { IfOk result (λ cond. condition cond ≡ Exists (record { 0 = 1 }) Notes
+        (All (Plain (Numbers (Field (record { 0 = 1 }) DocOf) Eq (Field (record { 0 = 0 }) Id)))
+        (Not (Plain (Numbers (Field (record { 0 = 1 }) Id) Eq (Field (record { 0 = 0 }) Id)))))) }
+{
+    let message = NumExpr::Field(Var(0), NumField::Id);
+    let on = Atom::Numbers(NumExpr::Field(Var(1), NumField::DocOf), Op::Eq, message);
+    let same = Atom::Numbers(NumExpr::Field(Var(1), NumField::Id), Op::Eq, message);
+    let apart = not(alloc, Cond::Plain(same))?;
+    let note = both(alloc, Cond::Plain(on), apart)?;
+    Ok(Cond::Exists(Var(1), Table::Notes, Box::new(alloc, note)?))
 }
 
 // Returns the condition that the day of now began after the message came.
@@ -188,13 +203,28 @@ fn a_start_has_its_line(rt: HostRuntime) -> Result<(), Memory> {
 fn a_body_that_its_path_makes_true_is_true(rt: HostRuntime) -> Result<(), Memory> {
     let alloc = rt.alloc();
     let cond = noted(alloc)?;
-    let lines = bare_lines(alloc, cond)?;
+    let lines = delta_lines(alloc, cond)?;
     assert_eq!(rt; lines.len(), 2);
     let asked: &[u8] = b"OVER m: DOC AT m.ts WHERE \
         EXISTS (v1: NOTE WHERE v1.ts <= m.ts AND v1.doc = m.id)";
-    let bare: &[u8] = b"OVER m: DOC, p1: NOTE [p1.doc = m.id] AT p1.ts WHERE TRUE";
+    let driven: &[u8] = b"OVER m: DOC, p1: NOTE [p1.doc = m.id] AT p1.ts WHERE TRUE";
     assert_eq!(rt; lines.as_slice()[0].as_slice(), asked);
-    assert_eq!(rt; lines.as_slice()[1].as_slice(), bare);
+    assert_eq!(rt; lines.as_slice()[1].as_slice(), driven);
+    drop(lines);
+    Ok(())
+}
+
+#[test]
+fn a_probe_asks_of_its_own_row(rt: HostRuntime) -> Result<(), Memory> {
+    let alloc = rt.alloc();
+    let cond = noted_apart(alloc)?;
+    let lines = delta_lines(alloc, cond)?;
+    assert_eq!(rt; lines.len(), 2);
+    let asked: &[u8] = b"OVER m: DOC AT m.ts WHERE \
+        EXISTS (v1: NOTE WHERE v1.ts <= m.ts AND (v1.doc = m.id AND NOT v1.id = m.id))";
+    let driven: &[u8] = b"OVER m: DOC, p1: NOTE [p1.doc = m.id] AT p1.ts WHERE NOT p1.id = m.id";
+    assert_eq!(rt; lines.as_slice()[0].as_slice(), asked);
+    assert_eq!(rt; lines.as_slice()[1].as_slice(), driven);
     drop(lines);
     Ok(())
 }

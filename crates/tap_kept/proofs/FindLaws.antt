@@ -10,14 +10,8 @@ use Rattle.time_marks.specs.declared.window.Window.{Window}
 use Rattle.tql_core.specs.declared.tnode.TNode.{TNode}
 use Rattle.time_marks.specs.declared.ranged.Ranged.{Ranged}
 use Rattle.time_marks.specs.declared.ranged_query.RangedQuery.{RangedQuery}
-use Rattle.time_marks.specs.Distinct.{same_probe, distinct_probes}
 use Rattle.time_marks.specs.Probes.{Probe, meaning_without}
 use Rattle.time_marks.specs.Views.{probe_in, ranged_probes}
-use Rattle.time_marks.proofs.Lists.{any_in, in_any, map_in}
-use Rattle.time_marks.proofs.Repeats.{probe_is, same_probe_is_equal, distinct_found, distinct_among}
-use Rattle.monotone_rewrite.specs.Query.{window}
-use Rattle.incremental_rewrite.specs.Witness.{bare_probe, bare_probes}
-use Rattle.query_form.specs.Form.{form_of}
 use Rattle.probe_eval.specs.Drivers.{seek_var, seek_hits, seek_cost}
 use Rattle.probe_eval.specs.Nested.{was_seen}
 use Rattle.probe_eval.specs.Runs as runs
@@ -37,20 +31,6 @@ use Rattle.wake_plan.specs.Wakes.{wake_window, hits_ahead}
 abbrev within : ℤ → ℤ → Window
 within low high = record { low = low; high = high }
 
--- each of the probes is among the distinct ones
-among-distinct : (X : List Probe) (p : Probe) → In p X → In p (distinct_probes X)
-among-distinct X p i =
-    let here = in_any (same_probe p) X p i ((same_probe_is_equal p p).1 refl) in
-    let k = any_in (same_probe p) (distinct_probes X) (distinct_found same_probe probe_is (same_probe p) [] X ∙ here) in
-    subst (λ q. In q (distinct_probes X)) (sym (probe_is p k.0 k.2)) k.1
-
--- the probes of a query have no mark where those of its form have none
-bare-unmarked : (T : Tables) (w : Window) (X : List Probe) → ((p : Probe) → In p (distinct_probes X) → runs.HasNoMark T w p)
-    → (p : Probe) → In p (distinct_probes (bare_probes X)) → runs.HasNoMark T w p
-bare-unmarked T w X none p i =
-    let k = map_in bare_probe X p (distinct_among (bare_probes X) p i) in
-    subst (runs.HasNoMark T w) (sym k.2) (none k.0 (among-distinct X k.0 k.1))
-
 -- what holds of a run of a plan holds of the query's probes
 pub quiet-since : {A : Type 0} (X : List Probe) (T : Tables) (kept : CachedQuery) (low high moment : ℤ) → X ≡ probes_of_query kept.row
     → low ≡ kept.covered → high ≡ moment
@@ -58,8 +38,7 @@ pub quiet-since : {A : Type 0} (X : List Probe) (T : Tables) (kept : CachedQuery
 quiet-since X T kept low high moment is from to tells quiet =
     let c = condition_by kept.row in
     let query = is-query (condition_text kept.row.source) in
-    let unmarked = bare-unmarked T (window_since kept moment) (window (form_of c) (start_of kept.row))
-    (forms_have_no_other_mark c (start_of kept.row) query T (window_since kept moment) quiet) in
+    let unmarked = forms_have_no_other_mark c (start_of kept.row) query T (window_since kept moment) quiet in
     let same : (p : Probe) → runs.HasNoMark T (within kept.covered moment) p → runs.HasNoMark T (within low high) p =
     λ p none.
     subst (λ z. runs.HasNoMark T (within z high) p) (sym from) (subst (λ z. runs.HasNoMark T (within kept.covered z) p) (sym to) none) in

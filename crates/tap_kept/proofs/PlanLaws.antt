@@ -8,20 +8,14 @@ use Rattle.tap_rows.specs.Results.{last_or, run_moments, covered, runs_of}
 use Rattle.time_marks.specs.declared.window_query.WindowQuery.{WindowQuery}
 use Rattle.time_marks.specs.declared.ranged_query.RangedQuery.{RangedQuery}
 use Rattle.time_marks.specs.Distinct.{distinct_probes}
-use Rattle.time_marks.specs.Found.{IsProbe}
 use Rattle.time_marks.specs.Views.{probes_of, ranged_probes}
-use Rattle.time_marks.proofs.Lists.{map_in}
 use Rattle.time_marks.proofs.Repeats.{distinct_among}
 use Rattle.monotone_rewrite.specs.Laws.{AreProbes}
-use Rattle.incremental_rewrite.specs.Witness.{bare_probe, bare_probes}
-use Rattle.incremental_rewrite.proofs.Witnesses.{bare_is_probe}
 use Rattle.probe_eval.specs.Runs.{HasValidProbes}
 
-pub probes-kept : (x y : WindowQuery) (r q : RangedQuery) → AreProbes (probes_of x) → probes_of y ≡ bare_probes (probes_of x)
-    → ranged_probes r ≡ distinct_probes (probes_of y) → q ≡ r → HasValidProbes q
-probes-kept x y r q s b d e = subst HasValidProbes (sym e) (λ p i.
-    let k = map_in bare_probe (probes_of x) p (subst (In p) b (distinct_among (probes_of y) p (subst (In p) d i))) in
-    subst IsProbe (sym k.2) (bare_is_probe k.0 (s k.0 k.1)))
+pub probes-kept : (x : WindowQuery) (r q : RangedQuery) → AreProbes (probes_of x) → ranged_probes r ≡ distinct_probes (probes_of x)
+    → q ≡ r → HasValidProbes q
+probes-kept x r q s d e = subst HasValidProbes (sym e) (λ p i. s p (distinct_among (probes_of x) p (subst (In p) d i)))
 
 -- what holds of all moments of runs holds of the last of a query's
 moments-each : (P : ℤ → Type 0) (query : ℕ) (runs : List RunRow) → Each (λ run. P run.moment) runs → Each P (run_moments query runs)

@@ -13,7 +13,8 @@ ghost use Rattle.tap_model.specs.Queries.{lines_of};
 ghost use Rattle.tap_base.specs.Numbers.{IsMoment};
 
 use access_plan::{Plan, plan};
-use incremental_rewrite::{bare, incremental, render};
+use delta_rewrite::delta_from;
+use incremental_rewrite::{incremental, render};
 use monotone_rewrite::monotone_from;
 use query_form::form_of;
 use restart_core::cut_start;
@@ -23,7 +24,7 @@ use tap_base::{Memory, Texts};
 use tap_rows::QueryRow;
 use tql_core::Cond;
 
-/// The row of a query, with its start, its condition, and the plan of the window query of the
+/// The row of a query, with its start, its condition, and the plan of the delta window of the
 /// condition's form. Contracts see it as its row.
 #[derive(Drop)]
 pub struct PlannedQuery {
@@ -57,8 +58,8 @@ fn start_of(row: &QueryRow) -> i64
     }
 }
 
-// Plans the window query of a condition's form from a start on. The plan has no body that the rows
-// of its path make true and no probe twice, and its marks are solved.
+// Plans the delta window of a condition's form from a start on. The plan has no probe twice, and
+// its marks are solved.
 pub(crate) fn make_plan(alloc: Global, cond: &Cond, start: i64) -> Result<Plan, Memory>
     requires scoped { IsQuery (condition cond.now) }
     requires bounded { are_bounded (condition cond.now) ≡ true }
@@ -69,15 +70,14 @@ pub(crate) fn make_plan(alloc: Global, cond: &Cond, start: i64) -> Result<Plan, 
     ensures written { CanRewriteFrom (condition cond.now) start }
 {
     let form = form_of(alloc, cond)?;
-    let query = monotone_from(alloc, &form, start)?;
-    let bare = bare(alloc, query)?;
-    let ranged = incremental(alloc, bare)?;
+    let query = delta_from(alloc, &form, start)?;
+    let ranged = incremental(alloc, query)?;
     let made = plan(alloc, ranged)?;
     Ok(made)
 }
 
 impl PlannedQuery {
-    /// Joins a row and the plan of its window query, which is made here once for all runs of the
+    /// Joins a row and the plan of its delta window, which is made here once for all runs of the
     /// query.
     pub fn new(alloc: Global, row: QueryRow, cond: Cond) -> Result<PlannedQuery, Memory>
         requires cond { condition cond ≡ condition_by row }
@@ -102,7 +102,7 @@ impl PlannedQuery {
         &self.row
     }
 
-    /// Gives the plan of its window query.
+    /// Gives the plan of its delta window.
     pub fn plan(&self) -> &Plan
         ensures query { ranged_probes result.now.query ≡ probes_of_query self.now }
         ensures probes { HasValidProbes result.now.query }

@@ -1,20 +1,16 @@
 -- The probes by which a condition is evaluated find what the condition gives.
-use Rattle.std.proofs.Common.{◌≡◌, ◌∙◌, ℤ, pos, List, subst}
+use Rattle.std.proofs.Common.{◌≡◌, ◌∙◌, ℤ, pos, subst}
 use Rattle.std.specs.Prelude.{◌≤ℤ◌, is_some}
 use mathlib.Core.Path.{fun_ext}
 use Rattle.tap_rows.specs.Results.{Truth, visible, first_second, fresh_in, union_until}
 use Rattle.tql_core.specs.Condition.{Condition}
 use Rattle.tql_core.specs.Scope.{IsQuery}
 use Rattle.tql_core.specs.Holds.{truth_of, asked_of}
-use Rattle.time_marks.specs.Probes.{Probe, window_meaning, meaning_without}
-use Rattle.time_marks.specs.Distinct.{HasSameMeaning}
-use Rattle.time_marks.proofs.Repeats.{repeats_find_nothing}
-use Rattle.monotone_rewrite.specs.Query.{window}
+use Rattle.time_marks.specs.Probes.{window_meaning, meaning_without}
 use Rattle.monotone_rewrite.specs.Laws.{IsUnionOf}
-use Rattle.monotone_rewrite.proofs.Scopes.{is_window_probe}
-use Rattle.monotone_rewrite.proofs.Windows.{window_is_union}
-use Rattle.incremental_rewrite.specs.Witness.{bare_probes}
-use Rattle.incremental_rewrite.proofs.Witnesses.{bare_find_same}
+use Rattle.monotone_rewrite.proofs.Windows.{distinct_union}
+use Rattle.delta_rewrite.specs.Delta.{delta_window}
+use Rattle.delta_rewrite.proofs.Deltas.{delta_is_union}
 use Rattle.query_form.specs.Form.{form_of}
 use Rattle.query_form.proofs.Equivalent.{forms_are_equivalent}
 use Rattle.query_form.proofs.Scopes.{forms_are_queries}
@@ -23,22 +19,11 @@ use Rattle.tap_model.specs.Queries.{probes_from}
 form_same : (c : Condition) → truth_of (form_of c) ≡ truth_of c
 form_same c = fun_ext (λ T. fun_ext (λ d. fun_ext (λ s. forms_are_equivalent c (visible T s) s (asked_of d))))
 
--- probes of the same meaning have the same union
-union_same : (c : Condition) (start : ℤ) (X Y : List Probe) → HasSameMeaning X Y → IsUnionOf c start Y → IsUnionOf c start X
-union_same c start X Y same union = record {
-  whole = λ T t zero. same.whole T (record { low = start; high = t }) ∙ union.whole T t zero;
-  since = λ T tau t zero late le. same.without (λ d. is_some (first_second (truth_of c) T d start tau)) T (record { low = tau; high = t })
-      ∙ union.since T tau t zero late le;
-}
-
 pub form_is_union : (c : Condition) (start : ℤ) → IsQuery c → pos 0 ≤ℤ start → IsUnionOf c start (probes_from c start)
 form_is_union c start query positive =
     let X = probes_from c start in
-    let W = window (form_of c) start in
-    let form = forms_are_queries c query in
-    let union = union_same (form_of c) start X (bare_probes W) (repeats_find_nothing (bare_probes W))
-    (union_same (form_of c) start (bare_probes W) W (bare_find_same W (is_window_probe (form_of c) start form))
-    (window_is_union (form_of c) start form positive)) in
+    let union = distinct_union (form_of c) start (delta_window (form_of c) start)
+    (delta_is_union (form_of c) start (forms_are_queries c query) positive) in
     record {
       whole = λ T t zero. subst (λ (truth : Truth). window_meaning X T (record { low = start; high = t }) ≡ union_until truth T start t)
           (form_same c) (union.whole T t zero);

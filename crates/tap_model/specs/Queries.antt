@@ -15,8 +15,8 @@ use Rattle.tql_text.specs.Texts.{condition_of}
 use Rattle.time_marks.specs.Probes.{Probe}
 use Rattle.time_marks.specs.Distinct.{distinct_probes}
 use Rattle.monotone_rewrite.specs.Query.{window}
+use Rattle.delta_rewrite.specs.Delta.{delta_window}
 use Rattle.incremental_rewrite.specs.Lines.{explain_lines}
-use Rattle.incremental_rewrite.specs.Witness.{bare_probes}
 use Rattle.query_form.specs.Form.{form_of}
 use Rattle.restart_core.specs.Starts.{is_from_now, condition_text}
 
@@ -41,10 +41,9 @@ query_truth query = Holds.truth_of (condition_by query)
 unfoldable pub start_of : QueryRow → ℤ
 start_of query = if is_from_now query.source then query.arrival else pos 0
 
--- the probes by which a condition is evaluated from a start on: the window query of its form, without the bodies that their
--- paths make true and without repeats
+-- the probes by which a condition is evaluated from a start on: the delta window of its form, without repeats
 abbrev pub probes_from : Condition → ℤ → List Probe
-probes_from c start = distinct_probes (bare_probes (window (form_of c) start))
+probes_from c start = distinct_probes (delta_window (form_of c) start)
 
 -- the probes by which a query runs
 abbrev pub probes_of_query : QueryRow → List Probe

@@ -23,8 +23,8 @@ pub fn copy(var: Var) -> Var
     }
 }
 
-// Returns the arrival of a variable's row as a time.
-pub(crate) fn arrival_term(var: Var) -> Term
+/// Returns the arrival of a variable's row as a time.
+pub fn arrival_term(var: Var) -> Term
     ensures { result ≡ arrival_term var }
 {
     Term {
@@ -47,8 +47,8 @@ fn copy_base(base: Base) -> Base
     }
 }
 
-// Returns the term with the copy of its variable.
-pub(crate) fn copy_term(term: &Term) -> Term
+/// Returns the term with the copy of its variable.
+pub fn copy_term(term: &Term) -> Term
     requires { BaseFits term.now.base }
     ensures { result ≡ copy_term term.now }
 {

@@ -31,8 +31,9 @@ fn add_guards(cond: &Cond, guards: &mut Rows<Atom>) -> Result<(), Memory>
     }
 }
 
-// Returns the path with the step of a bound variable at its end.
-fn longer(
+/// Returns the path with one more step at its end: it binds the variable's copy to a row of the
+/// table, with the guards of the condition. `Memory` if out of memory.
+pub fn longer_path(
     alloc: Global,
     path: &Rows<Step>,
     var: Var,
@@ -93,7 +94,7 @@ fn add_marks(
         }
         Cond::Not(x) => add_marks(alloc, x, !up, path, out),
         Cond::Exists(var, table, x) => {
-            let steps = longer(alloc, path, *var, *table, x)?;
+            let steps = longer_path(alloc, path, *var, *table, x)?;
             let at = arrival_term(copy(*var));
             add_mark_if(up, &steps, at, out)?;
             add_marks(alloc, x, up, &steps, out)?;
@@ -109,7 +110,7 @@ fn rising_of(alloc: Global, cond: &Cond) -> Result<Rows<Mark>, Memory>
 {
     let mut found = Rows::new(alloc);
     let none = Rows::new(alloc);
-    let steps = longer(alloc, &none, Var(0), Table::Docs, cond)?;
+    let steps = longer_path(alloc, &none, Var(0), Table::Docs, cond)?;
     let at = arrival_term(Var(0));
     add_mark_if(true, &steps, at, &mut found)?;
     add_marks(alloc, cond, true, &steps, &mut found)?;
@@ -123,7 +124,7 @@ fn marks_from(alloc: Global, cond: &Cond, start: i64) -> Result<Rows<Mark>, Memo
 {
     let mut found = rising_of(alloc, cond)?;
     let none = Rows::new(alloc);
-    let steps = longer(alloc, &none, Var(0), Table::Docs, cond)?;
+    let steps = longer_path(alloc, &none, Var(0), Table::Docs, cond)?;
     let at = Term {
         base: Base::Fixed,
         plus: start,

@@ -3,8 +3,8 @@ use Rattle.tql_core.specs.Bounds.{are_bounded}
 use Rattle.tql_core.specs.Scope.{IsQuery}
 use Rattle.plan_tests.proofs.line_tests.a_body_that_its_path_makes_true_is_true.Goals as goal
 
-pub bare_lines-requires : goal.bare_lines-requires
-bare_lines-requires g c = record {
+pub delta_lines-requires : goal.delta_lines-requires
+delta_lines-requires g c = record {
   query = record {
     scoped = subst IsQuery (sym c.in_ok-cond.ensures) (
       omega arith,

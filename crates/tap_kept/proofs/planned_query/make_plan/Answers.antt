@@ -7,8 +7,8 @@ use Rattle.query_form.proofs.Bounds.{forms_are_bounded}
 use Rattle.tap_kept.proofs.PlanLaws.{probes-kept}
 use Rattle.tap_kept.proofs.planned_query.make_plan.Goals as goal
 
-pub monotone_from-requires : goal.monotone_from-requires
-monotone_from-requires c =
+pub delta_from-requires : goal.delta_from-requires
+delta_from-requires c =
     let start : to_z w64 (of_z w64 c.args.start) ≡ c.args.start = search rules in
     let x = condition c.args.cond.now in
     record {
@@ -21,5 +21,5 @@ monotone_from-requires c =
     }
 
 pub returns-clause-scopes : goal.returns-clause-scopes
-returns-clause-scopes c = probes-kept c.in_ok-query.query c.in_ok-bare.bare c.in_ok-ranged.ranged c.in_ok-made.made.query
-    c.in_ok-query.ensures.scopes c.in_ok-bare.ensures.probes c.in_ok-ranged.ensures.distinct c.in_ok-made.ensures.query
+returns-clause-scopes c = probes-kept c.in_ok-query.query c.in_ok-ranged.ranged c.in_ok-made.made.query c.in_ok-query.ensures.scopes
+    c.in_ok-ranged.ensures.distinct c.in_ok-made.ensures.query

@@ -1,0 +1,16 @@
+pub mod Renaming
+pub mod MarksOf
+pub mod Asks
+pub mod Names
+pub mod Driven
+pub mod Sound
+pub mod CrossedProbes
+pub mod Complete
+pub mod Settling
+pub mod Deltas
+pub mod KnownBodies
+pub mod SameMarks
+pub mod Worked
+pub mod Parts
+pub mod Appended
+pub mod Stepped
