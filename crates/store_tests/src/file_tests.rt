@@ -3,8 +3,8 @@
 ghost use Rattle.std.specs.Prelude.{◌≡◌, false, IfSome};
 ghost use Rattle.store_tests.specs.Usable.{AreBothUsable};
 
-use crate::scripts::{FIRST, FIRST_REPLIES, SECOND, SECOND_REPLIES, THIRD, THIRD_REPLIES};
-use crate::sessions::{Ran, new_files, run_over, session};
+use crate::file_sessions::{Ran, new_files, run_over, session};
+use crate::three_scripts::{FIRST, FIRST_REPLIES, SECOND, SECOND_REPLIES, THIRD, THIRD_REPLIES};
 use sqlite::{Connection, Files, MemStore};
 use sqlite_disk::Disk;
 use std::alloc::Global;

@@ -4,8 +4,8 @@
 ghost use Rattle.std.specs.Prelude.{◌≡◌, false};
 ghost use Rattle.store_tests.specs.Usable.{AreBothUsable};
 
-use crate::scripts::{FIRST, SECOND};
-use crate::sessions::{Ran, new_files, run_over, session};
+use crate::file_sessions::{Ran, new_files, run_over, session};
+use crate::three_scripts::{FIRST, SECOND};
 use sqlite::{Connection, FileStore, Files, Options};
 use sqlite_disk::{Crash, Disk, Fuse, Memory as MemoryFile};
 use std::alloc::Global;

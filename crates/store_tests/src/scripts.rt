@@ -1,32 +1,109 @@
-//! Three sessions, and their replies.
+//! The scripts of sessions in memory, command by command.
 
-pub const FIRST: &[u8] =
-    b"as ann\nat 100\nquery q m.words HAS 'hi'\nmail\nSubject: hi\n\n.\nat 101\nrun q\nat 110\n\
-    mail\nSubject: hi\n\n.\nat 111\nrun q\n";
+use std::alloc::Global;
+use tap_base::{Memory, Text};
 
-pub const FIRST_REPLIES: &[u8] =
-    b"ok 0 as ann\nok 0 at 100\nok 0 query q\nok 0 doc 1\nok 0 at 101\nok 1 run 1 before 101\n\
-    doc 1 first 100\n\
-      ok 0 at 110\nok 0 doc 2\nok 0 at 111\nok 1 run 2 before 111\ndoc 2 first 110\n";
+/// A script, as its commands, each with its LF.
+pub type Script = [&'static [u8]; 16];
 
-/// A change of each kind, and the box.
-pub const SECOND: &[u8] =
-    b"as ann\nat 111\nat 120\nmail\nSubject: hi\n\n.\nat 121\nrun q\nnote 1 score -7 x\n\
-    query r TRUE\n\
-      filter\nWHEN TRUE PRIORITY 1 CLASS 'a'\n.\nbox q\n";
+/// A first session: a query, two messages and two runs.
+pub const FIRST: Script = [
+    b"as ann\n",
+    b"at 100\n",
+    b"query q m.words HAS 'hi'\n",
+    b"mail\nSubject: hi\n\n.\n",
+    b"at 101\n",
+    b"run q\n",
+    b"at 110\n",
+    b"mail\nSubject: hi\n\n.\n",
+    b"at 111\n",
+    b"run q\n",
+    b"",
+    b"",
+    b"",
+    b"",
+    b"",
+    b"",
+];
 
-pub const SECOND_REPLIES: &[u8] =
-    b"ok 0 as ann\nok 0 at 111\nok 0 at 120\nok 0 doc 3\nok 0 at 121\nok 1 run 3 before 121\n\
-    doc 3 first 120\n\
-      ok 0 note 1\nok 0 query r\nok 0 filter 1\n\
-      ok 3 box q\ndoc 1 first 100 run 1\ndoc 2 first 110 run 2\ndoc 3 first 120 run 3\n";
+/// A second session over what the first left.
+pub const SECOND: Script = [
+    b"as ann\n",
+    b"at 111\n",
+    b"at 120\n",
+    b"mail\nSubject: hi\n\n.\n",
+    b"at 121\n",
+    b"run q\n",
+    b"box q\n",
+    b"",
+    b"",
+    b"",
+    b"",
+    b"",
+    b"",
+    b"",
+    b"",
+    b"",
+];
 
-pub const THIRD: &[u8] = b"counts\nas ann\nbox q\nqueries\nshow 3\n";
+/// Two users with a query each.
+pub const TWO_USERS: Script = [
+    b"as ann\n",
+    b"at 100\n",
+    b"query q m.words HAS 'hi'\n",
+    b"mail\nSubject: hi\n\n.\n",
+    b"as bob\n",
+    b"query q m.words HAS 'yo'\n",
+    b"at 101\n",
+    b"as ann\n",
+    b"run q\n",
+    b"as bob\n",
+    b"run q\n",
+    b"box q\n",
+    b"box z\n",
+    b"as ann\n",
+    b"box q\n",
+    b"",
+];
 
-pub const THIRD_REPLIES: &[u8] =
-    b"ok 0 counts documents 3 notes 1 moment 121\nok 0 as ann\nok 3 box q\ndoc 1 first 100 run 1\n\
-    doc 2 first 110 run 2\n\
-      doc 3 first 120 run 3\nok 2 queries\n\
-      query q ts 100 from 0 runs 3 last 121 boxed 3 text m.words HAS 'hi'\n\
-      query r ts 121 from 0 runs 0 last never boxed 0 text TRUE\nok 2 show 3 at 120\n\
-      Subject: hi\n\n";
+/// Shows the boxes of both users, and the numbers of their next runs and of the next document.
+pub const PROBE: &[u8] = b"as ann\nbox q\nas bob\nbox q\nat 200\nrun q\nas ann\nrun q\nmail\n\n.\n";
+
+/// Returns whether a command adds rows.
+pub fn adds_rows(command: &[u8]) -> bool {
+    command.starts_with(b"query".as_slice())
+        || command.starts_with(b"mail".as_slice())
+        || command.starts_with(b"run".as_slice())
+}
+
+/// Returns how many commands are complete in the first bytes of a script.
+pub fn complete_in(commands: &[&[u8]], bytes: u64) -> usize {
+    let mut end = 0u64;
+    for (n, command) in commands.iter().enumerate() {
+        end = end.saturating_add(command.len() as u64);
+        if end > bytes {
+            return n;
+        }
+    }
+    commands.len()
+}
+
+// Appends some commands.
+fn push_commands(text: &mut Text, commands: &[&[u8]]) -> Result<(), Memory> {
+    for command in commands {
+        text.push_slice(command)?;
+    }
+    Ok(())
+}
+
+/// Returns the text of some commands.
+pub fn text_of(alloc: Global, commands: &[&[u8]]) -> Result<Text, Memory> {
+    let mut text = Text::new(alloc);
+    match push_commands(&mut text, commands) {
+        Ok(()) => Ok(text),
+        Err(Memory) => {
+            drop(text);
+            Err(Memory)
+        }
+    }
+}

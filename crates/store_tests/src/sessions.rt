@@ -1,153 +1,132 @@
-//! Sessions over a keeper, and over the files of a store.
+//! Sessions over keepers in memory, with a call that fails.
 
-ghost use Rattle.std.specs.Prelude.{◌≡◌, false, IsTrue, IfSome};
-ghost use Rattle.sqlite_disk.specs.Memory.{memory_is_usable};
-ghost use Rattle.tap_base.specs.Ledgers.{IsBlankOf};
-ghost use Rattle.keeper_core.specs.States.{IsFree};
-ghost use Rattle.store_tests.specs.Usable.{AreBothUsable};
+ghost use Rattle.keeper_core.specs.States.{IsFreeInMemory};
 
-use keeper_core::Keeper;
-use keeper_sql::SqlKeeper;
-use sqlite::{Alter, Connection, FileStore, Files, Options};
-use sqlite_disk::{Disk, Memory as MemoryFile};
+use crate::scripts::PROBE;
+use keeper_core::{KeepPlan, MemKeeper};
+use session_runs::{edges_of, written_over};
 use std::alloc::Global;
-use std::marker::Brand;
-use std::sync::ledger::{Blank, Ledger};
-use tap_base::{HashKey, Memory, Steps, Text, Texts};
-use tap_edges::{MemSink, MemSource};
-use tap_top::tapestry;
+use tap_base::{Memory, Text};
+use tap_edges::PutPlan;
+use tap_rows::Tables;
 
-/// A status and what was written.
-pub type Ran = Result<(u8, Text), Memory>;
-
-// Runs over a keeper.
-fn run_between<P: Keeper, L: Ledger>(
-    alloc: Global,
-    blank: Blank,
-    keeper: &mut P,
-    mut source: MemSource,
-    mut sink: MemSink,
-) -> Ran
-    requires blank { IsBlankOf L.name L.parts blank }
-    requires free { IsFree P.Keeper keeper.old }
-{
-    let mut steps = Steps::<L>::start(blank);
-    let words = Texts::new(alloc);
-    let status = tapestry(
-        alloc,
-        HashKey::fixed(),
-        &words,
-        &mut source,
-        &mut sink,
-        keeper,
-        &mut steps,
-    );
-    let written = Text::from_slice(alloc, sink.written());
-    drop(words);
-    drop(source);
-    drop(sink);
-    Ok((status, written?))
+/// What a run ended with: its status, what it wrote, what a session over the keeper's tables shows,
+/// and what one over the tables that a crash leaves shows.
+#[derive(Drop)]
+pub struct Left {
+    pub status: u8,
+    pub written: Text,
+    pub told: Text,
+    pub probe: Text,
 }
 
-// Runs a script over a keeper.
-fn run<P: Keeper, L: Ledger>(alloc: Global, blank: Blank, keeper: &mut P, script: &[u8]) -> Ran
-    requires blank { IsBlankOf L.name L.parts blank }
-    requires free { IsFree P.Keeper keeper.old }
+/// The call of a run that fails.
+#[derive(Clone, Copy)]
+pub enum Failure {
+    /// No call fails.
+    Nothing,
+    /// The read of this number fails.
+    Read(u64),
+    Put(PutPlan),
+    Keep(KeepPlan),
+}
+
+// Returns the reads that fail.
+fn reads_of(alloc: Global, failure: Failure) -> Result<Vec<u64>, Memory> {
+    match failure {
+        Failure::Read(call) => Ok(vec![in alloc; call]?),
+        _ => Ok(Vec::new(alloc)),
+    }
+}
+
+// Returns the puts that fail.
+fn puts_of(alloc: Global, failure: Failure) -> Result<Vec<PutPlan>, Memory> {
+    match failure {
+        Failure::Put(plan) => Ok(vec![in alloc; plan]?),
+        _ => Ok(Vec::new(alloc)),
+    }
+}
+
+// Returns the calls of the keeper that fail.
+fn keeps_of(alloc: Global, failure: Failure) -> Result<Vec<KeepPlan>, Memory> {
+    match failure {
+        Failure::Keep(plan) => Ok(vec![in alloc; plan]?),
+        _ => Ok(Vec::new(alloc)),
+    }
+}
+
+// Runs a script in pieces of this many bytes over a keeper; returns the status and what was
+// written.
+fn run_over(
+    alloc: Global,
+    keeper: &mut MemKeeper,
+    script: &[u8],
+    size: usize,
+    failure: Failure,
+) -> Result<(u8, Text), Memory>
+    requires free { IsFreeInMemory keeper.old }
 {
-    let text = Text::from_slice(alloc, script)?;
-    let source = MemSource::new(text, Vec::new(alloc), Vec::new(alloc));
-    match MemSink::new(alloc, 4096, Vec::new(alloc)) {
-        Ok(sink) => run_between::<P, L>(alloc, blank, keeper, source, sink),
+    let reads = reads_of(alloc, failure)?;
+    let puts = puts_of(alloc, failure)?;
+    let (source, sink) = edges_of(alloc, script, size, reads, 4096, puts)?;
+    written_over(alloc, keeper, source, sink)
+}
+
+// Returns what a session over these tables shows.
+fn probe_of(alloc: Global, tables: Tables) -> Result<Text, Memory> {
+    let mut keeper = MemKeeper::new(alloc, tables, 2, Vec::new(alloc));
+    let ended = run_over(alloc, &mut keeper, PROBE, 100, Failure::Nothing);
+    drop(keeper);
+    let (_status, written) = ended?;
+    Ok(written)
+}
+
+// Returns what sessions over the tables of a keeper show, and over those that a crash leaves.
+fn probes_of(alloc: Global, keeper: MemKeeper) -> Result<(Text, Text), Memory> {
+    let tables = keeper.tables().copy();
+    let left = keeper.after_crash();
+    let probe = probe_of(alloc, left)?;
+    let told = probe_of(alloc, tables?)?;
+    Ok((told, probe))
+}
+
+// Joins what a run ended with and what sessions over the tables of its keeper show.
+fn with_probes(
+    alloc: Global,
+    status: u8,
+    written: Text,
+    keeper: MemKeeper,
+) -> Result<Left, Memory> {
+    match probes_of(alloc, keeper) {
+        Ok((told, probe)) => Ok(Left {
+            status,
+            written,
+            told,
+            probe,
+        }),
         Err(Memory) => {
-            drop(source);
+            drop(written);
             Err(Memory)
         }
     }
 }
 
-/// Runs a script over the store of a connection, and hands that back.
-pub fn run_over<A: Alter + Drop>(
+/// Runs a script over these tables, in pieces of this many bytes, with this failure.
+pub fn left_by(
     alloc: Global,
-    connection: Connection<A>,
+    base: &Tables,
     script: &[u8],
-) -> (Ran, Connection<A>)
-    requires idle { connection.in_transaction ≡ false }
-{
-    let mut keeper = SqlKeeper::adopt(connection);
-    let ran = run::<_, Brand>(alloc, Blank::new(1), &mut keeper, script);
-    (ran, keeper.into_connection())
-}
-
-// Opens the files of a store.
-fn opened<D: Disk + Drop>(alloc: Global, files: Files<D>) -> Option<Connection<FileStore<D>>>
-    requires usable { AreBothUsable D.Disk files }
-    ensures idle { IfSome result (λ connection. connection.in_transaction ≡ false) }
-{
-    match Connection::open_files(alloc, files, Options::new(1)) {
-        Ok(connection) => Some(connection),
-        Err(_) => None,
-    }
-}
-
-// Closes the files of a store.
-fn closed<D: Disk + Drop>(connection: Connection<FileStore<D>>) -> Option<Files<D>>
-    ensures usable { IfSome result (λ files. AreBothUsable D.Disk files) }
-{
-    match connection.close_files() {
-        Ok(files) => Some(files),
-        Err((_, store)) => {
-            drop(store.close());
-            None
+    size: usize,
+    failure: Failure,
+) -> Result<Left, Memory> {
+    let keeps = keeps_of(alloc, failure)?;
+    let mut keeper = MemKeeper::new(alloc, base.copy()?, 2, keeps);
+    let ended = run_over(alloc, &mut keeper, script, size, failure);
+    match ended {
+        Ok((status, written)) => with_probes(alloc, status, written, keeper),
+        Err(Memory) => {
+            drop(keeper);
+            Err(Memory)
         }
-    }
-}
-
-// Joins what a session ended with and the files that it left, if there are both.
-fn joined<D: Disk + Drop>(ran: Ran, files: Option<Files<D>>) -> Option<(u8, Text, Files<D>)>
-    requires usable { IfSome files (λ left. AreBothUsable D.Disk left) }
-    ensures usable { IfSome result (λ left. AreBothUsable D.Disk left.2) }
-{
-    match files {
-        Some(files) => match ran {
-            Ok((status, written)) => Some((status, written, files)),
-            Err(Memory) => {
-                drop(files);
-                None
-            }
-        },
-        None => {
-            drop(ran);
-            None
-        }
-    }
-}
-
-/// Runs a session over the files of a store: its status, what it wrote, and the files as it closed
-/// them.
-pub fn session<D: Disk + Drop>(
-    alloc: Global,
-    files: Files<D>,
-    script: &[u8],
-) -> Option<(u8, Text, Files<D>)>
-    requires usable { AreBothUsable D.Disk files }
-    ensures usable { IfSome result (λ left. AreBothUsable D.Disk left.2) }
-{
-    match opened(alloc, files) {
-        Some(connection) => {
-            let (ran, connection) = run_over(alloc, connection, script);
-            joined(ran, closed(connection))
-        }
-        None => None,
-    }
-}
-
-/// Returns files without bytes.
-pub fn new_files(alloc: Global) -> Files<MemoryFile>
-    ensures log { IsTrue (memory_is_usable result.log) }
-    ensures db { IsTrue (memory_is_usable result.db) }
-{
-    Files {
-        log: MemoryFile::new(alloc),
-        db: MemoryFile::new(alloc),
     }
 }

@@ -1,5 +1,0 @@
-use Rattle.store_tests.proofs.sessions.run_over.Given as goal
-
--- the counter is that of the blank
-abbrev pub ghosts-run : goal.ghosts-run
-ghosts-run g a = record { name = a.blank.name; parts = a.blank.parts }
