@@ -2,6 +2,7 @@
 
 from __future__ import annotations
 
+import contextlib
 import os
 import pwd
 import random
@@ -71,18 +72,31 @@ def wait_until(holds: Callable[[], Any], what: str, seconds: float = 90.0) -> An
         time.sleep(0.01)
 
 
+def end_process(process: "subprocess.Popen[bytes]") -> None:
+    """Kills a process, unless it has ended, waits for its end, and closes the pipes to it."""
+    process.kill()
+    with process:
+        pass
+
+
 class Talk:
     """A client's connection."""
 
     def __init__(self, path: str, timeout: float = 90.0):
         self.socket = socket.socket(socket.AF_UNIX)
+        try:
+            # With a timeout it fails at once if others wait to be accepted.
+            self.socket.connect(path)
+        except OSError:
+            self.socket.close()
+            raise
         self.socket.settimeout(timeout)
-        self.socket.connect(path)
         self.file = self.socket.makefile("rb")
 
     def say(self, data: bytes) -> Optional[Reply]:
-        """Sends a command and returns its reply."""
-        self.socket.sendall(data)
+        """Sends a command and returns its reply, or what was said to a client that is refused."""
+        with contextlib.suppress(BrokenPipeError):
+            self.socket.sendall(data)
         return read_reply(self.file)
 
     def line(self, data: bytes) -> str:
@@ -109,6 +123,7 @@ class Service:
         self.write_rules(rules)
         open(self.log, "ab").close()
         self._number = 0
+        self._talks: List[Talk] = []
 
     def write_rules(self, rules: str) -> None:
         with open(self.rules, "w") as file:
@@ -177,10 +192,19 @@ class Service:
         wait_until(lambda: not self.waiting(), "the spool is empty", seconds)
 
     def talk(self) -> Talk:
-        return Talk(self.socket)
+        """A connection, which ends with the test at the latest."""
+        self._talks.append(Talk(self.socket))
+        return self._talks[-1]
+
+    def end(self) -> None:
+        """Kills the service, if it runs, and closes the connections to it."""
+        if self.process is not None:
+            end_process(self.process)
+        for talk in self._talks:
+            talk.close()
 
     def once(self, data: bytes) -> str:
-        talk = self.talk()
+        talk = Talk(self.socket)
         try:
             return talk.line(data)
         finally:
@@ -196,9 +220,7 @@ class WithService(Folder):
         return service
 
     def _end(self, service: Service) -> None:
-        if service.process is not None and service.process.poll() is None:
-            service.process.kill()
-            service.process.wait()
+        service.end()
         result = getattr(self._outcome, "result", None)  # type: ignore[attr-defined]
         bad = [*getattr(result, "failures", []), *getattr(result, "errors", [])] if result is not None else []
         if any(test is self for test, _ in bad) or not getattr(self._outcome, "success", True):  # type: ignore[attr-defined]

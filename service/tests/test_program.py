@@ -12,7 +12,7 @@ import time
 import unittest
 from typing import Callable, Dict, List, Optional
 
-from support import LOGIN, Folder, Service, WithService, a_second_here, draw, the_program, wait_until
+from support import LOGIN, Folder, Service, WithService, a_second_here, draw, end_process, the_program, wait_until
 from tapestry_service.digests import documents_of
 from tapestry_service.replies import Reply, read_reply
 
@@ -38,7 +38,7 @@ class Held(Folder):
 
     def session(self, *words: str) -> "subprocess.Popen[bytes]":
         process = subprocess.Popen([the_program(), *words], stdin=subprocess.PIPE, stdout=subprocess.PIPE)
-        self.addCleanup(process.kill)
+        self.addCleanup(end_process, process)
         return process
 
     def say(self, process: "subprocess.Popen[bytes]", data: bytes) -> Reply:
@@ -119,7 +119,7 @@ class Held(Folder):
         subprocess.run([the_program(), "--store", self.place("store")], input=script, stdout=subprocess.PIPE, check=True)
         words = [the_program("TAPESTRY_POP"), "--store", self.place("store"), "--user", "ann", "--box", "q", "--pass", "s"]
         process = subprocess.Popen(words, stdin=subprocess.PIPE, stdout=subprocess.PIPE)
-        self.addCleanup(process.kill)
+        self.addCleanup(end_process, process)
         assert process.stdin is not None and process.stdout is not None
         timer = threading.Timer(90, process.kill)
         timer.start()

@@ -12,7 +12,7 @@ import time
 import unittest
 from typing import List
 
-from support import FAKE, LOGIN, SERVICE, Service, Talk, WithService, a_second_here, wait_until
+from support import FAKE, LOGIN, SERVICE, Service, Talk, WithService, a_second_here, end_process, wait_until
 from tapestry_service.replies import read_reply
 
 RULES = f"user {LOGIN} ann\n"
@@ -94,7 +94,7 @@ class Failing(WithService):
     def test_a_store_that_another_program_holds(self) -> None:
         service = self.service(FAKE, RULES)
         holder = subprocess.Popen([sys.executable, FAKE, "--store", service.store], stdin=subprocess.PIPE)
-        self.addCleanup(holder.kill)
+        self.addCleanup(end_process, holder)
         time.sleep(0.3)
         service.start(is_ready=False)
         service.put(b"x")

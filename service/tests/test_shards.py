@@ -9,7 +9,7 @@ import unittest
 from typing import Any, List
 
 from fake_log import FOLLOWING, FileLog
-from support import FAKE, LOGIN, SERVICE, TESTS, Service, Talk, WithService, draw, the_program, wait_until
+from support import FAKE, LOGIN, SERVICE, TESTS, Service, Talk, WithService, draw, end_process, the_program, wait_until
 
 RULES = f"user {LOGIN} ann\n"
 
@@ -191,7 +191,7 @@ class Killed(Shards):
         def feed() -> "subprocess.Popen[bytes]":
             words = [sys.executable, self.place("following.py"), "--log", self.url, "--spool", self.place("fed")]
             found = subprocess.Popen(words, stderr=subprocess.DEVNULL)
-            self.addCleanup(found.kill)
+            self.addCleanup(end_process, found)
             return found
 
         answered = {}
